@@ -1,0 +1,2 @@
+pub mod Fnv1a
+pub mod Colours

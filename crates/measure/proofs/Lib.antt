@@ -1,0 +1,12 @@
+pub mod Different
+pub mod Chains
+pub mod Metric
+pub mod Known
+pub mod Chaining
+pub mod Relaxing
+pub mod Settled
+pub mod Stepping
+pub mod Cells
+pub mod Checking
+pub mod Measures
+pub mod Three

@@ -1,0 +1,8 @@
+-- A square of values in a list: one for every ordered pair (row, column) of numbers below the side.
+use mathlib.Core.List.{List}
+use Prim.Native.Nat.{ℕ, _+_, _*_, _<_}
+use lib.ListN.{length}
+
+-- the pair has a cell, and the list is long enough to hold it
+abbrev pub HasCell : {V : Type 0} → ℕ → List V → ℕ → ℕ → Type 0
+HasCell side cells row column = (row < side) × (column < side) × (row * side + column < length cells)

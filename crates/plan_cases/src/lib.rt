@@ -1,0 +1,3 @@
+// Tests of a draft's limits.
+#[cfg(test)]
+mod limits;

@@ -1,0 +1,6 @@
+pub mod Runs
+pub mod Lines
+pub mod Entries
+pub mod Blocks
+pub mod Unique
+pub mod Complete
