@@ -1,5 +1,6 @@
 // Measures one random plan of 256 relays and 1,024 links by the library, by the same algorithm in C++, and by
-// Dijkstra's with a heap, and prints how long each took. All three have to agree.
+// Dijkstra's with a heap, and prints how long each took. All three have to agree, and the library may take at most twice
+// as long as the same algorithm in C++.
 #include <algorithm>
 #include <chrono>
 #include <cstdint>
@@ -152,5 +153,5 @@ int main() {
     std::printf("same algorithm in C++ -O3            %8.2f ms   library is %.2f times that\n", cpp, ours / cpp);
     std::printf("Dijkstra with a heap in C++ -O3      %8.2f ms   library is %.2f times that\n", dijkstra, ours / dijkstra);
     std::printf("%s\n", agree ? "all three agree" : "THEY DIFFER");
-    return agree ? 0 : 1;
+    return agree && ours <= 2 * cpp ? 0 : 1;
 }

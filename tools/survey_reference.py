@@ -55,23 +55,34 @@ def report(text):
         graph.add_edge(number[a], number[b], weight=weight(kind, cost))
     out.append(f"closed: {k} colours, {len(names)} relays, {len(links)} links")
     distance = dict(nx.all_pairs_dijkstra_path_length(graph))
-    heading = "".join(f" {name:>12}" for name in names)
-    out.append(f"{'distance':>12}{heading}")
+    heading = "".join(f" {name:>16}" for name in names)
+    out.append(f"{'distance':>16}{heading}")
     for u, name in enumerate(names):
-        out.append(f"{name:>12}" + "".join(f" {field(kind, distance[u][v]):>12}" for v in range(len(names))))
-    out.append(f"{'next':>12}{heading}")
+        out.append(f"{name:>16}" + "".join(f" {field(kind, distance[u][v]):>16}" for v in range(len(names))))
+    out.append(f"{'next':>16}{heading}")
     for u, name in enumerate(names):
-        row = f"{name:>12}"
+        row = f"{name:>16}"
         for x in range(len(names)):
             steps = [r for r in graph[u] if graph[u][r]["weight"] + distance[r][x] == distance[u][x]]
-            row += f" {names[u if u == x else min(steps)]:>12}"
+            row += f" {names[u if u == x else min(steps)]:>16}"
         out.append(row)
+    sizes = []
+    for u, name in enumerate(names):
+        order = sorted(range(len(names)), key=lambda x: (distance[u][x], x))
+        size = next(b for b in range(len(names) + 1) if {relays[x][1] for x in order[:b]} >= set(range(1, k + 1)))
+        sizes.append(size)
+        managers = [next(x for x in order if relays[x][1] == c) for c in range(1, k + 1)]
+        ball = "".join(f" {names[x]}" for x in order[:size])
+        held = "".join(f" {names[x]}" for x in managers)
+        out.append(f"near {name}: ball of {size}:{ball}; managers:{held}; home: {names[managers[0]]}")
+    tenths = sum(sizes) * 10 // len(names)
+    out.append(f"largest ball: {max(sizes)}; mean: {tenths // 10}.{tenths % 10}")
     return "\n".join(out) + "\n"
 
 
 def random_plan(rng):
     kind = rng.choice("DP")
-    n = rng.randint(1, 24)
+    n = rng.choice([rng.randint(1, 24), rng.randint(1, 24), rng.randint(1, 24), 60])
     k = rng.randint(1, min(4, n))
     names = rng.sample(range(1, 2**32), n)
     colours = list(range(1, k + 1)) + [rng.randint(1, k) for _ in range(n - k)]
@@ -88,7 +99,7 @@ def random_plan(rng):
     lines.append("from to delay" if kind == "D" else "from to paid delay")
     for i, j in pairs:
         a, b = rng.choice([(i, j), (j, i)])
-        paid = "" if kind == "D" else f"{rng.randint(0, 3)} "
+        paid = "" if kind == "D" else f"{rng.randint(0, rng.choice([3, 1000]))} "
         lines.append(f"{names[a]} {names[b]} {paid}{rng.randint(1, top)}")
     return "\n".join(lines) + "\n"
 
@@ -102,7 +113,8 @@ def compare(count):
         with tempfile.TemporaryDirectory() as room:
             Path(room, "plan.txt").write_text(text)
             found = subprocess.run([program], cwd=room, capture_output=True, text=True, check=True).stdout
-        if found != report(text):
+        tables = [line for line in found.split("\n") if line.startswith("      ")]
+        if found != report(text) or len({len(line) for line in tables}) != 1:
             different += 1
             print(text)
     print(f"{count} random plans, {different} differ")

@@ -1,4 +1,5 @@
 -- The nearest of the relays that are known and not settled.
+-- For the inner functions: no public contract cites these.
 use Prim.Native.Nat.{ℕ}
 use mathlib.Core.Bool.{Bool}
 use mathlib.Core.List.{List}

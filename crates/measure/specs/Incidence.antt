@@ -1,4 +1,5 @@
 -- The links of each relay, one after another.
+-- For the inner functions: no public contract cites these.
 use mathlib.Core.List.{List}
 use Prim.Native.Nat.{ℕ, _+_, _<_, _≤_}
 use lib.ListN.{length, getD}

@@ -1,4 +1,5 @@
 -- How costs spread from one relay: what is known of each relay so far, and what the links offer.
+-- For the inner functions: no public contract cites these.
 use mathlib.Core.Path.{_≡_}
 use mathlib.Core.Bool.{Bool, true, false}
 use mathlib.Core.List.{List}

@@ -1,21 +1,14 @@
 ghost use mathlib.Core.Path.{_≡_};
-ghost use Prim.Native.Nat.{ℕ, _+_, _*_, _<_, _≤_};
+ghost use Prim.Native.Nat.{ℕ, _*_, _<_, _≤_};
 ghost use lib.ListN.{length, getD};
 ghost use Rattle.std.specs.Orderings.{Decides};
 ghost use Rattle.measure.specs.Settling.{Firm, Toward};
 ghost use Rattle.measure.specs.Incidence.{Incident};
 use crate::incidence::Incidence;
 use crate::spread::across;
+use crate::square::cell;
 use kind::Cost;
 use plan::Ends;
-
-// The cell of a pair in a square of this side.
-fn cell(side: usize, row: usize, column: usize) -> usize
-    requires { ⌜ side ≤ 256 ⌝ ∗ ⌜ row < side ⌝ ∗ ⌜ column < side ⌝ }
-    ensures { λ r. ⌜ r ≡ row * side + column ⌝ }
-{
-    row * side + column
-}
 
 // Whether the link and the rest cost as much as the whole.
 fn adds_up<C: Cost>(whole: C, over: C, rest: C) -> bool

@@ -1,13 +1,21 @@
 ghost use mathlib.Core.Path.{_≡_};
 ghost use mathlib.Core.Bool.{true, false};
-ghost use Prim.Native.Nat.{_+_, _*_, _≤_};
+ghost use Prim.Native.Nat.{_*_, _<_, _≤_};
 ghost use lib.ListN.{length, getD, set};
 ghost use Rattle.std.specs.Options.{Cases as BySome};
 ghost use Rattle.std.specs.Orderings.{Decides};
-ghost use Rattle.measure.specs.Squares.{HasCell};
+ghost use Rattle.measure.specs.Squares.{HasCell, cell-of};
+
+// The cell of a pair in a square of this side.
+pub(crate) fn cell(side: usize, row: usize, column: usize) -> usize
+    requires { ⌜ side ≤ 256 ⌝ ∗ ⌜ row < side ⌝ ∗ ⌜ column < side ⌝ }
+    ensures { λ r. ⌜ r ≡ cell-of side row column ⌝ }
+{
+    row * side + column
+}
 
 // One value for every ordered pair (row, column) of numbers below the side.
-// The values lie in a list that is lent at each call, at cell row * side + column.
+// The values lie in a list that is lent at each call, row by row.
 #[derive(Clone, Copy)]
 pub struct Square {
     side: usize,
@@ -33,7 +41,7 @@ impl Square {
 
     // The cell of the pair, if the pair and the list have one.
     fn place<V>(self, cells: &[V], row: usize, column: usize) -> Option<usize>
-        ensures { λ r. ⌜ BySome r (HasCell (self .side) (now (cells .entry)) row column → ⊥) (λ k. HasCell (self .side) (now (cells .entry)) row column × (k ≡ row * self .side + column)) ⌝ }
+        ensures { λ r. ⌜ BySome r (HasCell (self .side) (now (cells .entry)) row column → ⊥) (λ k. HasCell (self .side) (now (cells .entry)) row column × (k ≡ cell-of (self .side) row column)) ⌝ }
     {
         if row >= self.side || column >= self.side {
             return None;
@@ -44,7 +52,7 @@ impl Square {
 
     // The value of the pair; none if the pair has no cell.
     pub fn get<V: Copy>(self, cells: &[V], row: usize, column: usize) -> Option<V>
-        ensures { λ r. ⌜ BySome r (HasCell (self .side) (now (cells .entry)) row column → ⊥) (λ v. HasCell (self .side) (now (cells .entry)) row column × ((d : V) → v ≡ getD (now (cells .entry)) (row * self .side + column) d)) ⌝ }
+        ensures { λ r. ⌜ BySome r (HasCell (self .side) (now (cells .entry)) row column → ⊥) (λ v. HasCell (self .side) (now (cells .entry)) row column × ((d : V) → v ≡ getD (now (cells .entry)) (cell-of (self .side) row column) d)) ⌝ }
     {
         let cell = self.place(cells, row, column)?;
         Some(cells[cell])
@@ -53,7 +61,7 @@ impl Square {
     // Gives the pair this value, and says whether it has a cell; if not, nothing changes.
     pub fn set<V: Drop>(self, cells: &mut [V], row: usize, column: usize, value: V) -> bool
         ensures told { λ r. ⌜ Decides r (HasCell (self .side) (now (cells .entry)) row column) ⌝ }
-        ensures written { λ r. ⌜ (r ≡ true → now (cells .exit) ≡ set (now (cells .entry)) (row * self .side + column) value) ⌝ }
+        ensures written { λ r. ⌜ (r ≡ true → now (cells .exit) ≡ set (now (cells .entry)) (cell-of (self .side) row column) value) ⌝ }
         ensures kept { λ r. ⌜ (r ≡ false → now (cells .exit) ≡ now (cells .entry)) ⌝ }
     {
         match self.place(cells, row, column) {

@@ -1,4 +1,6 @@
 // Surveys the plan in plan.txt, and prints each thing that it does.
+mod near;
+
 use kind::Cost;
 use kind::Delay;
 use kind::DelayCost;
@@ -8,6 +10,7 @@ use kind::PaidCost;
 use kind::PaidDisplay;
 use measure::Square;
 use measure::measure;
+use near::print_balls;
 use plan::Closed;
 use plan::Counts;
 use plan::Ends;
@@ -113,9 +116,9 @@ impl Field for Paid as PaidField {
 
 // Prints the heading of a table: the names of the relays.
 fn print_heading(rt: &impl Print, title: &str, names: &[u32]) -> io::Result<()> {
-    print!(rt, "{title:>12}")?;
+    print!(rt, "{title:>16}")?;
     for name in names {
-        print!(rt, " {name:>12}")?;
+        print!(rt, " {name:>16}")?;
     }
     println!(rt, "")
 }
@@ -129,11 +132,11 @@ fn print_distances<C: Cost + Field>(
     print_heading(rt, "distance", names)?;
     let square = Square::new(names.len());
     for (u, name) in names.iter().enumerate() {
-        print!(rt, "{name:>12}")?;
+        print!(rt, "{name:>16}")?;
         for v in 0..names.len() {
             if let Some(cost) = square.get(distances, u, v) {
                 let field = cost.field(rt.alloc())?;
-                print!(rt, " {field:>12}")?;
+                print!(rt, " {field:>16}")?;
             }
         }
         println!(rt, "")?;
@@ -146,11 +149,11 @@ fn print_nexts(rt: &impl Print, names: &[u32], nexts: &[u16]) -> io::Result<()> 
     print_heading(rt, "next", names)?;
     let square = Square::new(names.len());
     for (u, name) in names.iter().enumerate() {
-        print!(rt, "{name:>12}")?;
+        print!(rt, "{name:>16}")?;
         for v in 0..names.len() {
             if let Some(next) = square.get(nexts, u, v) {
                 let next = names.get(usize::from(next)).copied().unwrap_or(0);
-                print!(rt, " {next:>12}")?;
+                print!(rt, " {next:>16}")?;
             }
         }
         println!(rt, "")?;
@@ -168,7 +171,7 @@ fn named(counts: Counts, names: &[u32]) -> &[u32] {
     }
 }
 
-// Measures a closed plan, and prints its distances and next relays.
+// Measures a closed plan, and prints its distances, its next relays and what each relay sees.
 fn print_measures<C: Cost + Clone + Field>(
     rt: &LibcRuntime,
     closed: Closed,
@@ -193,7 +196,14 @@ fn print_measures<C: Cost + Clone + Field>(
     ) {
         Ok(_) => {
             print_distances(rt, named(counts, names), &distances)?;
-            print_nexts(rt, named(counts, names), &nexts)
+            print_nexts(rt, named(counts, names), &nexts)?;
+            print_balls(
+                rt,
+                named(counts, names),
+                colours,
+                counts.colours,
+                &distances,
+            )
         }
         Err(back) => {
             let (_, refusal) = back;
