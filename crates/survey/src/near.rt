@@ -76,7 +76,7 @@ fn print_ball(
 }
 
 // Prints what each relay sees, and then the largest ball and the mean, in tenths.
-pub fn print_balls<C: Cost>(
+pub(crate) fn print_balls<C: Cost>(
     rt: &LibcRuntime,
     names: &[u32],
     colours: &[u8],
