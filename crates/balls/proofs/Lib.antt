@@ -1,3 +1,5 @@
-pub mod Managing
-pub mod Sizing
 pub mod Inserting
+pub mod Squares
+pub mod Counting
+pub mod Meeting
+pub mod Nearby

@@ -1,10 +1,6 @@
-// Managers, home landmarks and balls, from an order of relays and their colours; and the order itself.
-mod managers;
-mod sizes;
+// What each relay has near it: the order that it sees, its ball, its managers and its home landmark.
+mod missing;
+mod neighbourhoods;
 mod sorting;
 
-pub use managers::home;
-pub use managers::manager;
-pub use managers::manager_of;
-pub use sizes::ball_size;
-pub use sorting::order_from;
+pub use neighbourhoods::Neighbourhoods;

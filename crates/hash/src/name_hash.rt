@@ -9,10 +9,7 @@ pub trait NameHash {
 
     law within: { (k name : ℕ) → 1 ≤ k → (1 ≤ colour k name) × (colour k name ≤ k) };
 
-    // No colour, 0, if there are no colours.
-    law none: { (name : ℕ) → colour 0 name ≡ 0 };
-
-    // The colour of a name: 1 to `colours`, or 0 if there are no colours.
+    // The colour of a name among so many colours.
     fn colour_of(colours: u8, name: u32) -> u8
         ensures { λ r. ⌜ r ≡ colour colours name ⌝ };
 }

@@ -33,7 +33,7 @@ impl Tally {
             println!(rt, "{what}: 0x{found:08x} ok")
         } else {
             self.differ = self.differ.saturating_add(1);
-            println!(rt, "{what}: 0x{found:08x} DIFFERS")
+            println!(rt, "{what}: 0x{found:08x} DIFFERS from 0x{published:08x}")
         }
     }
 }

@@ -3,6 +3,7 @@ use mathlib.Core.Path.{_≡_}
 use mathlib.Core.List.{List, [], _∷_}
 use mathlib.Core.Logic.{_⊎_}
 use Prim.Native.Nat.{ℕ, _<_, _≤_}
+use lib.ListN.{length}
 use Rattle.kind.specs.Laws.{AtMost}
 use Rattle.plan.specs.Plan.{Plan}
 use Rattle.plan.specs.Walk.{Walk, Hop, Chain, cost-of}
@@ -13,6 +14,10 @@ module _ {C : Type 0} (none : C) (plus : C → C → C) (less : C → C → Type
     pub walk : Walk p u v
     pub costs : cost-of none plus (walk .hops) ≡ c
     pub least : (w : Walk p u v) → AtMost less c (cost-of none plus (w .hops))
+
+  -- D is the distance of the plan
+  abbrev pub Distances : Plan C → (ℕ → ℕ → C) → Type 0
+  Distances p D = (u v : ℕ) → u < length (p .relays) → v < length (p .relays) → Distance p u v (D u v)
 
   -- r is the first relay after u on a cheapest walk to x
   pub record FirstStep (p : Plan C) (u x r : ℕ) : Type 0 where

@@ -19,7 +19,7 @@ use plan::Counts;
 use plan::Ends;
 use plan::Refusal;
 
-// A measured plan: its distances and next relays are in the two squares. It can only be laid.
+// A measured plan: its distances and next relays are in the two squares. The only step left to it is to be laid.
 #[derive(Drop)]
 pub struct Measured {
     pub(crate) counts: Counts,

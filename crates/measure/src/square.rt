@@ -4,7 +4,7 @@ ghost use Prim.Native.Nat.{_*_, _<_, _≤_};
 ghost use lib.ListN.{length, getD, set};
 ghost use Rattle.std.specs.Options.{Cases as BySome};
 ghost use Rattle.std.specs.Orderings.{Decides};
-ghost use Rattle.measure.specs.Squares.{HasCell, cell-of};
+ghost use Rattle.measure.specs.Squares.{HasCell, HasRow, cell-of, row-of};
 
 // The cell of a pair in a square of this side.
 pub(crate) fn cell(side: usize, row: usize, column: usize) -> usize
@@ -56,6 +56,22 @@ impl Square {
     {
         let cell = self.place(cells, row, column)?;
         Some(cells[cell])
+    }
+
+    // The values of a row; none if there is no such row, or the list lacks part of it.
+    pub fn row<'a, V>(self, cells: &'a [V], row: usize) -> Option<&'a [V]>
+        ensures { λ r. ⌜ BySome r (HasRow (self .side) (now (cells .entry)) row → ⊥) (λ part. HasRow (self .side) (now (cells .entry)) row × (now part ≡ row-of (self .side) (now (cells .entry)) row)) ⌝ }
+    {
+        if row >= self.side {
+            return None;
+        }
+        let start = row.checked_mul(self.side)?;
+        let end = start.checked_add(self.side)?;
+        if end <= cells.len() {
+            Some(&cells[start..end])
+        } else {
+            None
+        }
     }
 
     // Gives the pair this value, and says whether it has a cell; if not, nothing changes.

@@ -1,5 +1,7 @@
 pub mod Places
 pub mod Order
+pub mod Ordered
+pub mod Theory
 pub mod Tests
 pub mod Settle
 pub mod Settled

@@ -4,14 +4,14 @@ use mathlib.Core.List.{List, [], _∷_}
 use mathlib.Core.Logic.{_⊎_, inl, inr}
 use Prim.Native.Nat.{ℕ, zero, suc, _<_, _≤_}
 use native.Mathlib.Omega.{arith}
-use lib.ListN.{length, getD, take}
+use borrow.Author.Count.{below-more}
+use lib.ListN.{length, getD}
 use Rattle.std.specs.shelf.Lists.{All}
 use Rattle.std.proofs.shelf.Elements.{all-from-getD}
 use Rattle.std.proofs.shelf.Tests.{cases-eq, cases-lt}
 use Rattle.plan.specs.Sound.{IsColour, NoTwo}
 use Rattle.measure.proofs.Different.{at-most}
-use Rattle.order.specs.Seen.{Covers}
-use Rattle.order.specs.Views.{Among}
+use Rattle.order.specs.Seen.{Met, Covers}
 
 -- below n, a test fails everywhere or holds at some place
 pub search-below : (P : ℕ → Type 0) → ((i : ℕ) → P i ⊎ (P i → ⊥)) → (n : ℕ) → ((i : ℕ) × (i < n) × P i) ⊎ ((i : ℕ) → i < n → P i → ⊥)
@@ -21,14 +21,7 @@ search-below P test (suc n) = by (search-below P test n) (test n)
     by : ((i : ℕ) × (i < n) × P i) ⊎ ((i : ℕ) → i < n → P i → ⊥) → P n ⊎ (P n → ⊥) → ((i : ℕ) × (i < suc n) × P i) ⊎ ((i : ℕ) → i < suc n → P i → ⊥)
     by (inl (i, l, h)) t = inl (i, omega arith, h)
     by (inr none) (inl h) = inl (n, omega arith, h)
-    by (inr none) (inr no-n) = inr last
-      where
-        last : (i : ℕ) → i < suc n → P i → ⊥
-        last i l h = here (cases-eq i n)
-          where
-            here : (i ≡ n) ⊎ (i ≡ n → ⊥) → ⊥
-            here (inl e) = no-n (subst P e h)
-            here (inr ne) = none i (omega arith) h
+    by (inr none) (inr no-n) = inr (λ i l. below-more (λ j. P j → ⊥) n none no-n i (omega arith))
 
 -- different numbers, one by one
 pub no-two : (xs : List ℕ) → ((i j : ℕ) → i < j → j < length xs → getD xs i 0 ≡ getD xs j 0 → ⊥) → NoTwo _≡_ xs
@@ -50,70 +43,41 @@ place-of n xs e small differ y l = by (search-below (λ i. getD xs i 0 ≡ y) (�
         absurd (omega arith)
 
 -- the first a have every colour, or lack one
-module _ (paint : ℕ → ℕ) (zs : List ℕ) (a : ℕ) where
-  abbrev pub Met : ℕ → Type 0
-  Met c = (i : ℕ) × (i < a) × (i < length zs) × (paint (getD zs i 0) ≡ c)
+module _ (colouring : ℕ → ℕ) (zs : List ℕ) (a : ℕ) where
+  abbrev MetBy : ℕ → Type 0
+  MetBy c = Met colouring zs a c
 
   abbrev Here : ℕ → ℕ → Type 0
-  Here c i = (i < length zs) × (paint (getD zs i 0) ≡ c)
+  Here c i = (i < length zs) × (colouring (getD zs i 0) ≡ c)
 
   here-or-not : (c i : ℕ) → Here c i ⊎ (Here c i → ⊥)
-  here-or-not c i = both (cases-lt i (length zs)) (cases-eq (paint (getD zs i 0)) c)
+  here-or-not c i = both (cases-lt i (length zs)) (cases-eq (colouring (getD zs i 0)) c)
     where
-      both : (i < length zs) ⊎ (length zs ≤ i) → (paint (getD zs i 0) ≡ c) ⊎ (paint (getD zs i 0) ≡ c → ⊥) → Here c i ⊎ (Here c i → ⊥)
+      both : (i < length zs) ⊎ (length zs ≤ i) → (colouring (getD zs i 0) ≡ c) ⊎ (colouring (getD zs i 0) ≡ c → ⊥) → Here c i ⊎ (Here c i → ⊥)
       both (inl l) (inl e) = inl (l, e)
       both (inl l) (inr ne) = inr (λ h. ne (h .1))
       both (inr l) e = inr (λ h. omega (arith, h .0))
 
-  met : (c : ℕ) → Met c ⊎ (Met c → ⊥)
+  met : (c : ℕ) → MetBy c ⊎ (MetBy c → ⊥)
   met c = by (search-below (Here c) (here-or-not c) a)
     where
-      by : ((i : ℕ) × (i < a) × Here c i) ⊎ ((i : ℕ) → i < a → Here c i → ⊥) → Met c ⊎ (Met c → ⊥)
+      by : ((i : ℕ) × (i < a) × Here c i) ⊎ ((i : ℕ) → i < a → Here c i → ⊥) → MetBy c ⊎ (MetBy c → ⊥)
       by (inl (i, l, h)) = inl (i, l, h .0, h .1)
       by (inr none) = inr (λ h. none (h .0) (h .1) (h .2, h .3))
 
-  pub lacks : (k : ℕ) → Covers paint k zs a ⊎ ((c : ℕ) × IsColour k c × (Met c → ⊥))
+  pub lacks : (k : ℕ) → Covers colouring k zs a ⊎ ((c : ℕ) × IsColour k c × (MetBy c → ⊥))
   lacks zero = inl (λ c h. absurd (omega (arith, h .0, h .1)))
   lacks (suc k) = by (lacks k) (met (suc k))
     where
-      by : Covers paint k zs a ⊎ ((c : ℕ) × IsColour k c × (Met c → ⊥)) → Met (suc k) ⊎ (Met (suc k) → ⊥)
-          → Covers paint (suc k) zs a ⊎ ((c : ℕ) × IsColour (suc k) c × (Met c → ⊥))
+      by : Covers colouring k zs a ⊎ ((c : ℕ) × IsColour k c × (MetBy c → ⊥)) → MetBy (suc k) ⊎ (MetBy (suc k) → ⊥)
+          → Covers colouring (suc k) zs a ⊎ ((c : ℕ) × IsColour (suc k) c × (MetBy c → ⊥))
       by (inr (c, h, no-c)) t = inr (c, (h .0, omega (arith, h .1)), no-c)
       by (inl all) (inr no-last) = inr (suc k, (omega arith, omega arith), no-last)
       by (inl all) (inl last) = inl cover
         where
-          cover : Covers paint (suc k) zs a
+          cover : Covers colouring (suc k) zs a
           cover c h = here (cases-eq c (suc k))
             where
-              here : (c ≡ suc k) ⊎ (c ≡ suc k → ⊥) → Met c
-              here (inl e) = subst Met (sym e) last
+              here : (c ≡ suc k) ⊎ (c ≡ suc k → ⊥) → MetBy c
+              here (inl e) = subst MetBy (sym e) last
               here (inr ne) = all c (h .0, omega (arith, h .1))
-
--- the numbers at the first b places
-among-first : (y : ℕ) (ys : List ℕ) (x : ℕ) → x ≡ y → Among (y ∷ ys) x
-among-first y [] x e = e
-among-first y (z ∷ ys) x e = inl e
-
-among-later : (y : ℕ) (ys : List ℕ) (x : ℕ) → Among ys x → Among (y ∷ ys) x
-among-later y [] x h = absurd h
-among-later y (z ∷ ys) x h = inr h
-
-among-cases : (y : ℕ) (ys : List ℕ) (x : ℕ) → Among (y ∷ ys) x → (x ≡ y) ⊎ Among ys x
-among-cases y [] x h = inl h
-among-cases y (z ∷ ys) x h = h
-
-pub among : (b : ℕ) (zs : List ℕ) (x i : ℕ) → i < b → i < length zs → getD zs i 0 ≡ x → Among (take b zs) x
-among zero zs x i l h e = absurd (omega arith)
-among (suc b) [] x i l h e = absurd (omega arith)
-among (suc b) (z ∷ zs) x zero l h e = among-first z (take b zs) x (sym e)
-among (suc b) (z ∷ zs) x (suc i) l h e = among-later z (take b zs) x (among b zs x i (omega arith) (omega arith) e)
-
-pub among-place : (b : ℕ) (zs : List ℕ) (x : ℕ) → Among (take b zs) x → (i : ℕ) × (i < b) × (i < length zs) × (getD zs i 0 ≡ x)
-among-place zero zs x h = absurd h
-among-place (suc b) [] x h = absurd h
-among-place (suc b) (z ∷ zs) x h = by (among-cases z (take b zs) x h) (among-place b zs x)
-  where
-    by : (x ≡ z) ⊎ Among (take b zs) x → (Among (take b zs) x → (i : ℕ) × (i < b) × (i < length zs) × (getD zs i 0 ≡ x))
-        → (i : ℕ) × (i < suc b) × (i < length (z ∷ zs)) × (getD (z ∷ zs) i 0 ≡ x)
-    by (inl e) rest = (0, omega arith, omega arith, sym e)
-    by (inr k) rest = let (i, l, m, e) = rest k in (suc i, omega arith, omega arith, e)

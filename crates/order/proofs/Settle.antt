@@ -7,23 +7,27 @@ use mathlib.Core.Logic.{_⊎_, inl, inr}
 use Prim.Native.Nat.{ℕ, zero, suc, _<_, _≤_, _+_, _-_, _^_}
 use native.Mathlib.Omega.{arith}
 use lib.Dec.{ltb, leb, eqb}
-use lib.ListN.{length, getD}
+use lib.ListN.{length, getD, take}
 use Rattle.std.specs.shelf.Lists.{All, Has}
 use Rattle.std.proofs.shelf.Elements.{all-weaker, all-has}
 use Rattle.std.proofs.shelf.Tests.{and-parts, and-from, or-cases, or-left, or-right, cases-lt, lt-ltb, ltb-true, leb-true, eqb-true, eq-eqb}
 use Rattle.kind.specs.declared.delay.Delay.{Delay}
 use Rattle.kind.specs.Kinds.{delay, no-delay, both-delays, Shorter, DelayLink}
 use Rattle.kind.specs.Kept.{delay-laws}
-use Rattle.plan.specs.Plan.{Plan, Relay, Link, link}
+use Rattle.plan.specs.Plan.{Plan, Relay, Link, link, colour-of}
 use Rattle.plan.specs.Walk.{Linked, Walk, cost-of}
 use Rattle.plan.specs.Sound.{Sound, SameName, SamePair, IsName, IsColour, TwoRelays}
-use Rattle.measure.specs.Distance.{Distance, FirstStep, Next}
+use Rattle.measure.specs.Distance.{Distance, Distances, FirstStep, Next}
 use Rattle.measure.proofs.Chains.{linked-to, linked-cost}
 use Rattle.measure.proofs.Metric.{metric}
-use Rattle.order.specs.Seen.{colour-of, Measures, Before, Manager, Order, BallSize, Covers}
-use Rattle.order.specs.Views.{Measured, View}
+use Rattle.order.specs.Seen.{Before, Ball, Manager, Order, BallSize, Covers}
+use Rattle.order.specs.Views.{WithDistances}
 use Rattle.order.proofs.Tests.{not-both, all-of, all-of-is, some-of, some-of-is, all-below, all-below-is, some-below, some-below-is, pairs, pairs-no-two, pairs-at}
-use Rattle.order.proofs.Order.{ball-is, manager-is}
+use Rattle.order.proofs.Order.{manager-is}
+
+-- the ticks of a table of delays
+abbrev pub ticks-of : (ℕ → ℕ → Delay) → ℕ → ℕ → ℕ
+ticks-of D u v = D u v .ticks
 
 -- within bounds
 abbrev between : ℕ → ℕ → ℕ → Bool
@@ -118,8 +122,8 @@ module _ (p : Plan Delay) (T : ℕ → ℕ → ℕ) where
   abbrev target : ℕ → Bool
   target v = eqb (T v v) 0 && (all-of (tight v) (p .links) && all-below (toward v) (length (p .relays)))
 
-  abbrev pub measures-test : Bool
-  measures-test = all-below target (length (p .relays))
+  abbrev pub distances-test : Bool
+  distances-test = all-below target (length (p .relays))
 
   pub on-is : (u v : ℕ) (t : ℕ → Bool) (l : Link Delay) → Has (p .links) l → on u v t l ≡ true
       → (r : ℕ) × (c : Delay) × Linked p u r c × (T u v ≡ c .ticks + T r v) × (t r ≡ true)
@@ -167,8 +171,8 @@ module _ (p : Plan Delay) (T : ℕ → ℕ → ℕ) where
                       ap (both-delays c) (more .1) ∙ ap delay (sym is),
                     )
 
-    pub measures-are : measures-test ≡ true → Measures no-delay both-delays Shorter p D
-    measures-are e u v hu hv =
+    pub distances-are : distances-test ≡ true → Distances no-delay both-delays Shorter p D
+    distances-are e u v hu hv =
         let a = and-parts (eqb (T v v) 0) _ (all-below-is target (length (p .relays)) e v hv) in
         let b = and-parts (all-of (tight v) (p .links)) (all-below (toward v) (length (p .relays))) (a .1) in
         let zero-v : T v v ≡ 0 = eqb-true _ _ (a .0) in
@@ -232,8 +236,8 @@ module _ (p : Plan Delay) (T : ℕ → ℕ → ℕ) where
     abbrev last-colour : ℕ → ℕ
     last-colour b = colour-of p (getD zs (b - 1) 0)
 
-    abbrev pub view-test : ℕ → Bool
-    view-test b = order-test && (leb b (length zs) && (covers-test b && (between 1 (p .colours) (last-colour b) && lacks-test (b - 1) (last-colour b))))
+    abbrev pub ball-test : ℕ → Bool
+    ball-test b = order-test && (leb b (length zs) && (covers-test b && (between 1 (p .colours) (last-colour b) && lacks-test (b - 1) (last-colour b))))
 
     covers-is : (b : ℕ) → covers-test b ≡ true → Covers (colour-of p) (p .colours) zs b
     covers-is b e zero h = absurd (omega (arith, h .0))
@@ -242,7 +246,7 @@ module _ (p : Plan Delay) (T : ℕ → ℕ → ℕ) where
         let g = and-parts (ltb (f .0) (length zs)) (eqb (colour-of p (getD zs (f .0) 0)) (suc c)) (f .2) in
         (f .0, f .1, ltb-true _ _ (g .0), eqb-true _ _ (g .1))
 
-    size-is : (b : ℕ) → view-test b ≡ true → BallSize (colour-of p) (p .colours) zs b
+    size-is : (b : ℕ) → ball-test b ≡ true → BallSize (colour-of p) (p .colours) zs b
     size-is b e0 =
         let e1 = and-parts order-test _ e0 in
         let e2 = and-parts (leb b (length zs)) _ (e1 .1) in
@@ -256,15 +260,18 @@ module _ (p : Plan Delay) (T : ℕ → ℕ → ℕ) where
               lacks-is (b - 1) (last-colour b) (e4 .1) (met .0) (omega (arith, met .1, l)) (met .3);
         }
 
-    pub view-is : (b : ℕ) → view-test b ≡ true → View p D u zs b
-    view-is b e =
-        let o = order-is (and-parts order-test _ e .0) in
-        record { order = o; size = size-is b e; ball = ball-is delay-laws p D u b zs o (size-is b e) }
+    pub ball-is : (b : ℕ) → ball-test b ≡ true → (xs : List ℕ) → length xs ≡ b → xs ≡ take (length xs) zs → Ball Shorter D p u xs
+    ball-is b e xs long begins = record {
+      order = zs;
+      seen = order-is (and-parts order-test _ e .0);
+      size = subst (λ (n : ℕ). BallSize (colour-of p) (p .colours) zs n) (sym long) (size-is b e);
+      begins = begins;
+    }
 
-pub measured-is : (p : Plan Delay) (T : ℕ → ℕ → ℕ) → sound-test p ≡ true → measures-test p T ≡ true → Measured p (D p T)
-measured-is p T e f = let sound = sound-is p e in record { sound = sound; measures = measures-are p T sound f }
+pub with-distances : (p : Plan Delay) (T : ℕ → ℕ → ℕ) → sound-test p ≡ true → distances-test p T ≡ true → WithDistances p (D p T)
+with-distances p T e f = let sound = sound-is p e in record { sound = sound; distances = distances-are p T sound f }
 
--- what is next, in a plan that is measured
+-- what is next, in a plan with its distances
 module _ (p : Plan Delay) (T : ℕ → ℕ → ℕ) where
   on-so : (u v r : ℕ) (t : ℕ → Bool) (c : Delay) → Linked p u r c → T u v ≡ c .ticks + T r v → t r ≡ true
       → (l : Link Delay) × Has (p .links) l × (on p T u v t l ≡ true)
@@ -285,8 +292,8 @@ module _ (p : Plan Delay) (T : ℕ → ℕ → ℕ) where
       ltb u (length (p .relays)) && (ltb v (length (p .relays)) && (not (eqb u v)
       && (some-of (on p T u v (λ s. eqb s r)) (p .links) && all-of (λ l. not (on p T u v (λ s. ltb s r) l)) (p .links))))
 
-  pub next-is : Measured p (D p T) → (u v r : ℕ) → next-test u v r ≡ true → Next no-delay both-delays Shorter p u v r
-  next-is measured u v r e0 =
+  pub next-is : WithDistances p (D p T) → (u v r : ℕ) → next-test u v r ≡ true → Next no-delay both-delays Shorter p u v r
+  next-is given u v r e0 =
       let e1 = and-parts (ltb u (length (p .relays))) _ e0 in
       let e2 = and-parts (ltb v (length (p .relays))) _ (e1 .1) in
       let e3 = and-parts (not (eqb u v)) _ (e2 .1) in
@@ -301,16 +308,16 @@ module _ (p : Plan Delay) (T : ℕ → ℕ → ℕ) where
         where
           first : (s : ℕ) × (c : Delay) × Linked p u s c × (T u v ≡ c .ticks + T s v) × (eqb s r ≡ true) → FirstStep no-delay both-delays Shorter p u v r
           first (s, c, linked, is, same) = subst (λ (x : ℕ). FirstStep no-delay both-delays Shorter p u v x) (eqb-true s r same)
-              (metric delay-laws p (measured .sound) .step u v s c (D p T s v) (D p T u v) ne linked
-              (measured .measures s v (linked-to p (measured .sound) u s c linked) hv) (measured .measures u v hu hv) (ap delay is))
+              (metric delay-laws p (given .sound) .step u v s c (D p T s v) (D p T u v) ne linked
+              (given .distances s v (linked-to p (given .sound) u s c linked) hv) (given .distances u v hu hv) (ap delay is))
 
           lowest : (s : ℕ) → FirstStep no-delay both-delays Shorter p u v s → r ≤ s
-          lowest s step = by (cases-lt s r) (metric delay-laws p (measured .sound) .first-step u v s step (D p T u v) (measured .measures u v hu hv))
+          lowest s step = by (cases-lt s r) (metric delay-laws p (given .sound) .first-step u v s step (D p T u v) (given .distances u v hu hv))
             where
               by : (s < r) ⊎ (r ≤ s) → (c : Delay) × (d : Delay) × Linked p u s c × Distance no-delay both-delays Shorter p s v d × (D p T u v ≡ both-delays c d) → r ≤ s
               by (inr h) x = h
               by (inl h) (c, d, linked, dist, is) =
-                  let same : d ≡ D p T s v = metric delay-laws p (measured .sound) .unique s v d (D p T s v) dist
-                  (measured .measures s v (linked-to p (measured .sound) u s c linked) hv) in
+                  let same : d ≡ D p T s v = metric delay-laws p (given .sound) .unique s v d (D p T s v) dist
+                  (given .distances s v (linked-to p (given .sound) u s c linked) hv) in
                   let m = on-so u v s (λ x. ltb x r) c linked (ap (λ (x : Delay). x .ticks) (is ∙ ap (both-delays c) same)) (lt-ltb s r h) in
                   absurd (not-both (on p T u v (λ x. ltb x r) (m .0)) (all-has (λ l. not (on p T u v (λ x. ltb x r) l) ≡ true) (p .links) (m .0) none (m .1)) (m .2))

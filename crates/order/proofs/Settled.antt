@@ -1,35 +1,44 @@
 -- The two worked examples.
-use mathlib.Core.Path.{refl}
-use mathlib.Core.List.{[], _∷_}
+use mathlib.Core.Path.{_≡_, refl, sym, subst}
+use mathlib.Core.List.{List, [], _∷_}
 use Prim.Native.Nat.{ℕ}
-use Rattle.order.specs.Examples.{line, line-delays, BallOfTwelve, fork, fork-delays, BallOfTwenty}
-use Rattle.order.specs.Views.{View}
-use Rattle.order.proofs.Settle.{measured-is, view-is, manager-at}
+use native.Mathlib.Omega.{arith}
+use Rattle.order.specs.Examples.{line, line-delays, SeenFromTwelve, fork, fork-delays, SeenFromTwenty}
+use Rattle.order.proofs.Settle.{ticks-of, with-distances, ball-is, manager-at}
 
--- the ticks of a table of delays
-abbrev line-ticks : ℕ → ℕ → ℕ
-line-ticks u v = line-delays u v .ticks
-
-abbrev fork-ticks : ℕ → ℕ → ℕ
-fork-ticks u v = fork-delays u v .ticks
-
-twelve-view : View line line-delays 2 (2 ∷ 1 ∷ 3 ∷ 0 ∷ 4 ∷ 5 ∷ []) 3
-twelve-view = view-is line line-ticks 2 (2 ∷ 1 ∷ 3 ∷ 0 ∷ 4 ∷ 5 ∷ []) 3 refl
-
-pub ball-of-twelve : BallOfTwelve
-ball-of-twelve = record {
-  measured = measured-is line line-ticks refl refl;
-  view = twelve-view;
-  ball = twelve-view .ball;
-  home = manager-at line line-ticks 2 (2 ∷ 1 ∷ 3 ∷ 0 ∷ 4 ∷ 5 ∷ []) 1 2 refl;
+twelve : SeenFromTwelve (12 ∷ 11 ∷ 13 ∷ []) 13
+twelve = record {
+  distances = with-distances line (ticks-of line-delays) refl refl;
+  balls = record {
+    centre = 2;
+    called = (omega arith, λ d. refl);
+    members = 2 ∷ 1 ∷ 3 ∷ [];
+    ball = ball-is line (ticks-of line-delays) 2 (2 ∷ 1 ∷ 3 ∷ 0 ∷ 4 ∷ 5 ∷ []) 3 refl (2 ∷ 1 ∷ 3 ∷ []) refl refl;
+    named = refl;
+  };
+  homes = record {
+    centre = 2;
+    called = (omega arith, λ d. refl);
+    landmark = 3;
+    home = manager-at line (ticks-of line-delays) 2 (2 ∷ 1 ∷ 3 ∷ 0 ∷ 4 ∷ 5 ∷ []) 1 2 refl;
+    named = (omega arith, λ d. refl);
+  };
 }
 
-twenty-view : View fork fork-delays 0 (0 ∷ 1 ∷ 2 ∷ []) 2
-twenty-view = view-is fork fork-ticks 0 (0 ∷ 1 ∷ 2 ∷ []) 2 refl
+pub seen-from-twelve : (ball : List ℕ) (home : ℕ) → ball ≡ 12 ∷ 11 ∷ 13 ∷ [] → home ≡ 13 → SeenFromTwelve ball home
+seen-from-twelve ball home e f = subst (λ (b : List ℕ). SeenFromTwelve b home) (sym e) (subst (λ (h : ℕ). SeenFromTwelve (12 ∷ 11 ∷ 13 ∷ []) h) (sym f) twelve)
 
-pub ball-of-twenty : BallOfTwenty
-ball-of-twenty = record {
-  measured = measured-is fork fork-ticks refl refl;
-  view = twenty-view;
-  ball = twenty-view .ball;
+twenty : SeenFromTwenty (20 ∷ 21 ∷ [])
+twenty = record {
+  distances = with-distances fork (ticks-of fork-delays) refl refl;
+  balls = record {
+    centre = 0;
+    called = (omega arith, λ d. refl);
+    members = 0 ∷ 1 ∷ [];
+    ball = ball-is fork (ticks-of fork-delays) 0 (0 ∷ 1 ∷ 2 ∷ []) 2 refl (0 ∷ 1 ∷ []) refl refl;
+    named = refl;
+  };
 }
+
+pub seen-from-twenty : (ball : List ℕ) → ball ≡ 20 ∷ 21 ∷ [] → SeenFromTwenty ball
+seen-from-twenty ball e = subst (λ (b : List ℕ). SeenFromTwenty b) (sym e) twenty

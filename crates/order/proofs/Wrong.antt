@@ -1,57 +1,61 @@
 -- The three classic mistakes fail.
 use mathlib.Core.Path.{_≡_, refl, ap, subst}
 use mathlib.Core.Bool.{Bool, true, not, _&&_, _||_}
-use mathlib.Core.List.{[], _∷_}
+use mathlib.Core.List.{List, [], _∷_}
 use mathlib.Core.Logic.{_⊎_, inl, inr}
 use Prim.Native.Nat.{ℕ, zero, suc, _<_, _+_}
 use native.Mathlib.Omega.{arith}
 use lib.Dec.{ltb, eqb}
 use lib.ListN.{length, getD}
+use Rattle.std.proofs.shelf.Elements.{has-getD}
 use Rattle.std.proofs.shelf.Tests.{and-parts, and-from, or-cases, or-left, or-right, ltb-true, lt-ltb, eqb-true, eq-eqb, cases-order}
 use Rattle.kind.specs.declared.delay.Delay.{Delay}
-use Rattle.kind.specs.Kinds.{delay, no-delay, both-delays}
-use Rattle.plan.specs.Plan.{Plan, link}
-use Rattle.order.specs.Seen.{colour-of}
-use Rattle.order.specs.Views.{Measured, View}
+use Rattle.kind.specs.Kinds.{delay, no-delay, both-delays, Shorter}
+use Rattle.kind.specs.Kept.{delay-laws}
+use Rattle.plan.specs.Plan.{Plan, link, colour-of}
+use Rattle.order.specs.Views.{WithDistances}
+use Rattle.order.specs.Seen.{Ball, InBall}
 use Rattle.order.specs.Examples.{line, line-delays}
 use Rattle.order.specs.Mistakes.{row, row-delays, AnyMemberFails, FixedSizeFails, ring, ring-delays, EntryOrderFails, Begins, FirstEntered, EntryBefore, EntryBall}
 use Rattle.order.proofs.Tests.{not-both, all-below, all-below-is}
-use Rattle.order.proofs.Settle.{D, measured-is, view-is, order-is, manager-at, lacks-is, next-is}
+use Rattle.order.proofs.Theory.{balls}
+use Rattle.order.proofs.Settle.{ticks-of, D, with-distances, ball-is, order-is, lacks-is, next-is}
 
-abbrev row-ticks : ℕ → ℕ → ℕ
-row-ticks u v = row-delays u v .ticks
+row-distances : WithDistances row row-delays
+row-distances = with-distances row (ticks-of row-delays) refl refl
 
-abbrev line-ticks : ℕ → ℕ → ℕ
-line-ticks u v = line-delays u v .ticks
+-- the ball of relay 1, and that of relay 2: all five
+row-one : Ball Shorter row-delays row 1 (1 ∷ 0 ∷ 2 ∷ 3 ∷ 4 ∷ [])
+row-one = ball-is row (ticks-of row-delays) 1 (1 ∷ 0 ∷ 2 ∷ 3 ∷ 4 ∷ []) 5 refl (1 ∷ 0 ∷ 2 ∷ 3 ∷ 4 ∷ []) refl refl
 
-abbrev ring-ticks : ℕ → ℕ → ℕ
-ring-ticks u v = ring-delays u v .ticks
+row-two : Ball Shorter row-delays row 2 (2 ∷ 1 ∷ 3 ∷ 0 ∷ 4 ∷ [])
+row-two = ball-is row (ticks-of row-delays) 2 (2 ∷ 1 ∷ 3 ∷ 0 ∷ 4 ∷ []) 5 refl (2 ∷ 1 ∷ 3 ∷ 0 ∷ 4 ∷ []) refl refl
 
-row-measured : Measured row row-delays
-row-measured = measured-is row row-ticks refl refl
-
-row-view : View row row-delays 0 (0 ∷ 1 ∷ 2 ∷ 3 ∷ []) 4
-row-view = view-is row row-ticks 0 (0 ∷ 1 ∷ 2 ∷ 3 ∷ []) 4 refl
+-- the relay at place i of a ball is in it
+in-ball : (p : Plan Delay) (T : ℕ → ℕ → ℕ) → WithDistances p (D p T) → (u : ℕ) (xs : List ℕ) → Ball Shorter (D p T) p u xs → (i : ℕ) → i < length xs
+    → InBall Shorter (D p T) p u (getD xs i 0)
+in-ball p T m u xs ball i l = balls delay-laws p (D p T) (m .sound) (m .distances) .members u xs ball (getD xs i 0) .1 (has-getD xs i 0 l)
 
 pub any-member-fails : AnyMemberFails
 any-member-fails = record {
-  measured = row-measured;
-  manager = manager-at row row-ticks 0 (0 ∷ 1 ∷ 2 ∷ 3 ∷ []) 2 1 refl;
-  member = row-view .ball 1 (omega arith) .1 (inr (inl refl));
-  other = row-view .ball 2 (omega arith) .1 (inr (inr (inl refl)));
-  coloured = refl;
-  next = next-is row row-ticks row-measured 0 2 1 refl;
-  manager-there = manager-at row row-ticks 1 (1 ∷ 0 ∷ 2 ∷ 3 ∷ []) 2 0 refl;
-  another = λ e. omega (arith, e);
+  distances = row-distances;
+  not-there = λ e. omega (arith, e);
+  nor-there = λ e. omega (arith, e);
+  one = in-ball row (ticks-of row-delays) row-distances 1 (1 ∷ 0 ∷ 2 ∷ 3 ∷ 4 ∷ []) row-one 3 (omega arith);
+  one-coloured = refl;
+  out = next-is row (ticks-of row-delays) row-distances 1 3 2 refl;
+  other = in-ball row (ticks-of row-delays) row-distances 2 (2 ∷ 1 ∷ 3 ∷ 0 ∷ 4 ∷ []) row-two 3 (omega arith);
+  other-coloured = refl;
+  back = next-is row (ticks-of row-delays) row-distances 2 0 1 refl;
 }
 
 pub fixed-size-fails : FixedSizeFails
 fixed-size-fails = record {
-  measured = measured-is line line-ticks refl refl;
-  one = view-is line line-ticks 0 (0 ∷ 1 ∷ 2 ∷ 3 ∷ 4 ∷ 5 ∷ []) 2 refl;
-  other = order-is line line-ticks 2 (2 ∷ 1 ∷ 3 ∷ 0 ∷ 4 ∷ 5 ∷ []) refl;
+  distances = with-distances line (ticks-of line-delays) refl refl;
+  one = ball-is line (ticks-of line-delays) 0 (0 ∷ 1 ∷ 2 ∷ 3 ∷ 4 ∷ 5 ∷ []) 2 refl (0 ∷ 1 ∷ []) refl refl;
+  other = order-is line (ticks-of line-delays) 2 (2 ∷ 1 ∷ 3 ∷ 0 ∷ 4 ∷ 5 ∷ []) refl;
   is-colour = (omega arith, omega arith);
-  lacks = lacks-is line line-ticks 2 (2 ∷ 1 ∷ 3 ∷ 0 ∷ 4 ∷ 5 ∷ []) 2 1 refl;
+  lacks = lacks-is line (ticks-of line-delays) 2 (2 ∷ 1 ∷ 3 ∷ 0 ∷ 4 ∷ 5 ∷ []) 2 1 refl;
 }
 
 -- the link that a cheapest way begins with, by a test that computes
@@ -96,8 +100,8 @@ module _ (p : Plan Delay) (T : ℕ → ℕ → ℕ) where
       by (inr (inl l)) = absurd (g .1 j l (f .0))
       by (inr (inr l)) = absurd (f .1 k l (g .0))
 
-ring-measured : Measured ring ring-delays
-ring-measured = measured-is ring ring-ticks refl refl
+ring-distances : WithDistances ring ring-delays
+ring-distances = with-distances ring (ticks-of ring-delays) refl refl
 
 -- only relay 4 has colour 2
 ring-colours : (y : ℕ) → y < 5 → colour-of ring y ≡ 2 → y ≡ 4
@@ -111,12 +115,12 @@ ring-colours (suc (suc (suc (suc (suc y))))) l e = absurd (omega arith)
 -- at relay 0, 3 stands before 4
 not-before : EntryBefore ring ring-delays 0 4 3 → ⊥
 not-before (inl l) = omega (arith, l)
-not-before (inr (e, (i, j, fi, fj, inl l))) = omega (arith, l, first-one ring ring-ticks 0 3 j 0 fj (first-is ring ring-ticks 0 3 0 refl))
+not-before (inr (e, (i, j, fi, fj, inl l))) = omega (arith, l, first-one ring (ticks-of ring-delays) 0 3 j 0 fj (first-is ring (ticks-of ring-delays) 0 3 0 refl))
 not-before (inr (e, (i, j, fi, fj, inr l))) = omega (arith, l .1)
 
 -- at relay 1, 4 stands before 3
 is-before : EntryBefore ring ring-delays 1 4 3
-is-before = inr (refl, (2, 3, first-is ring ring-ticks 1 4 2 refl, first-is ring ring-ticks 1 3 3 refl, inl (omega arith)))
+is-before = inr (refl, (2, 3, first-is ring (ticks-of ring-delays) 1 4 2 refl, first-is ring (ticks-of ring-delays) 1 3 3 refl, inl (omega arith)))
 
 no-more : EntryBall ring ring-delays 1 3 → ⊥
 no-more (zero, is, none) = omega (arith, is .0)
@@ -124,14 +128,14 @@ no-more (suc zero, is, none) = none 1 (omega arith) refl (inl (omega arith))
 no-more (suc (suc zero), is, none) = none 4 (omega arith) refl is-before
 no-more (suc (suc (suc c)), is, none) = omega (arith, is .1)
 
-ring-view : View ring ring-delays 1 (1 ∷ 0 ∷ 3 ∷ 4 ∷ 2 ∷ []) 4
-ring-view = view-is ring ring-ticks 1 (1 ∷ 0 ∷ 3 ∷ 4 ∷ 2 ∷ []) 4 refl
+ring-ball : Ball Shorter ring-delays ring 1 (1 ∷ 0 ∷ 3 ∷ 4 ∷ [])
+ring-ball = ball-is ring (ticks-of ring-delays) 1 (1 ∷ 0 ∷ 3 ∷ 4 ∷ 2 ∷ []) 4 refl (1 ∷ 0 ∷ 3 ∷ 4 ∷ []) refl refl
 
 pub entry-order-fails : EntryOrderFails
 entry-order-fails = record {
-  measured = ring-measured;
+  distances = ring-distances;
   member = (2, (omega arith, omega arith), λ y l e b. not-before (subst (λ (x : ℕ). EntryBefore ring ring-delays 0 x 3) (ring-colours y l e) b));
-  next = next-is ring ring-ticks ring-measured 0 3 1 refl;
+  next = next-is ring (ticks-of ring-delays) ring-distances 0 3 1 refl;
   member-no-more = no-more;
-  by-number = ring-view .ball 3 (omega arith) .1 (inr (inr (inl refl)));
+  by-number = in-ball ring (ticks-of ring-delays) ring-distances 1 (1 ∷ 0 ∷ 3 ∷ 4 ∷ []) ring-ball 2 (omega arith);
 }

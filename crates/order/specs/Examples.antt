@@ -1,13 +1,10 @@
 -- Two worked examples, of kind delay.
-use mathlib.Core.Path.{_≡_}
-use mathlib.Core.List.{[], _∷_}
-use mathlib.Core.Logic.{_⊎_, _↔_}
-use Prim.Native.Nat.{ℕ, _<_}
+use mathlib.Core.List.{List, [], _∷_}
+use Prim.Native.Nat.{ℕ}
 use Rattle.kind.specs.declared.delay.Delay.{Delay}
-use Rattle.kind.specs.Kinds.{delay, Shorter}
+use Rattle.kind.specs.Kinds.{delay}
 use Rattle.plan.specs.Plan.{Plan, relay, link}
-use Rattle.order.specs.Seen.{InBall, Home}
-use Rattle.order.specs.Views.{from-table, Measured, View}
+use Rattle.order.specs.Views.{from-table, WithDistances, BallNamed, HomeNamed}
 
 -- six relays on a line, at 0, 2, 5, 9, 10 and 15
 abbrev pub line : Plan Delay
@@ -27,12 +24,11 @@ line-delays = from-table (
     ∷ (15 ∷ 13 ∷ 10 ∷ 6 ∷ 5 ∷ 0 ∷ [])
     ∷ [])
 
--- relay 12, of number 2: its order, its ball and its home landmark
-pub record BallOfTwelve : Type 0 where
-  pub measured : Measured line line-delays
-  pub view : View line line-delays 2 (2 ∷ 1 ∷ 3 ∷ 0 ∷ 4 ∷ 5 ∷ []) 3
-  pub ball : (x : ℕ) → x < 6 → InBall Shorter line-delays line 2 x ↔ ((x ≡ 2) ⊎ ((x ≡ 1) ⊎ (x ≡ 3)))
-  pub home : Home Shorter line-delays line 2 3
+-- the ball and the home landmark of relay 12, by name
+pub record SeenFromTwelve (ball : List ℕ) (home : ℕ) : Type 0 where
+  pub distances : WithDistances line line-delays
+  pub balls : BallNamed line line-delays 12 ball
+  pub homes : HomeNamed line line-delays 12 home
 
 -- a relay with two neighbours, equally far
 abbrev pub fork : Plan Delay
@@ -45,8 +41,7 @@ fork = record {
 abbrev pub fork-delays : ℕ → ℕ → Delay
 fork-delays = from-table ((0 ∷ 1 ∷ 1 ∷ []) ∷ (1 ∷ 0 ∷ 2 ∷ []) ∷ (1 ∷ 2 ∷ 0 ∷ []) ∷ [])
 
--- relay 20, of number 0: of the two neighbours the one of the lower number is in its ball
-pub record BallOfTwenty : Type 0 where
-  pub measured : Measured fork fork-delays
-  pub view : View fork fork-delays 0 (0 ∷ 1 ∷ 2 ∷ []) 2
-  pub ball : (x : ℕ) → x < 3 → InBall Shorter fork-delays fork 0 x ↔ ((x ≡ 0) ⊎ (x ≡ 1))
+-- the ball of relay 20, by name: of the two neighbours it has the one of the lower number
+pub record SeenFromTwenty (ball : List ℕ) : Type 0 where
+  pub distances : WithDistances fork fork-delays
+  pub balls : BallNamed fork fork-delays 20 ball

@@ -6,50 +6,58 @@ use Prim.Native.Nat.{ℕ, _<_}
 use lib.ListN.{length, getD}
 use Rattle.kind.specs.declared.delay.Delay.{Delay}
 use Rattle.kind.specs.Kinds.{delay, no-delay, both-delays, Shorter}
-use Rattle.plan.specs.Plan.{Plan, relay, link}
+use Rattle.plan.specs.Plan.{Plan, relay, link, colour-of}
 use Rattle.plan.specs.Sound.{IsColour}
 use Rattle.measure.specs.Distance.{Next}
-use Rattle.order.specs.Seen.{colour-of, InBall, Manager, Order}
-use Rattle.order.specs.Views.{from-table, Measured, View}
+use Rattle.order.specs.Seen.{Ball, InBall, Order}
+use Rattle.order.specs.Views.{from-table, WithDistances}
 use Rattle.order.specs.Examples.{line, line-delays}
 
 -- Any ball member of the right colour as manager.
--- Relay u has the members m and l of colour c in its ball, and m is the manager. One relay on toward l, at r, the manager for c is n, and not l.
-pub record AnyMember (p : Plan Delay) (D : ℕ → ℕ → Delay) (u c m l r n : ℕ) : Type 0 where
-  pub measured : Measured p D
-  pub manager : Manager Shorter D p u c m
-  pub member : InBall Shorter D p u m
-  pub other : InBall Shorter D p u l
-  pub coloured : colour-of p l ≡ c
-  pub next : Next no-delay both-delays Shorter p u l r
-  pub manager-there : Manager Shorter D p r c n
-  pub another : n ≡ l → ⊥
+-- Neither u nor r has the colour c. Relay u picks the member x of its ball, of colour c, and the packet goes to r; relay r picks the member y of its own,
+-- of colour c too, and the packet goes back to u: as long as both keep their picks, it comes to no relay of colour c.
+pub record AnyMember (p : Plan Delay) (D : ℕ → ℕ → Delay) (c u x r y : ℕ) : Type 0 where
+  pub distances : WithDistances p D
+  pub not-there : colour-of p u ≡ c → ⊥
+  pub nor-there : colour-of p r ≡ c → ⊥
+  pub one : InBall Shorter D p u x
+  pub one-coloured : colour-of p x ≡ c
+  pub out : Next no-delay both-delays Shorter p u x r
+  pub other : InBall Shorter D p r y
+  pub other-coloured : colour-of p y ≡ c
+  pub back : Next no-delay both-delays Shorter p r y u
 
--- four relays in a row
+-- five relays in a row
 abbrev pub row : Plan Delay
 row = record {
   colours = 3;
-  relays = relay 30 1 ∷ relay 31 2 ∷ relay 32 2 ∷ relay 33 3 ∷ [];
-  links = link 0 1 (delay 1) ∷ link 1 2 (delay 1) ∷ link 2 3 (delay 1) ∷ [];
+  relays = relay 30 2 ∷ relay 31 1 ∷ relay 32 1 ∷ relay 33 2 ∷ relay 34 3 ∷ [];
+  links = link 0 1 (delay 1) ∷ link 1 2 (delay 1) ∷ link 2 3 (delay 1) ∷ link 3 4 (delay 1) ∷ [];
 }
 
 abbrev pub row-delays : ℕ → ℕ → Delay
-row-delays = from-table ((0 ∷ 1 ∷ 2 ∷ 3 ∷ []) ∷ (1 ∷ 0 ∷ 1 ∷ 2 ∷ []) ∷ (2 ∷ 1 ∷ 0 ∷ 1 ∷ []) ∷ (3 ∷ 2 ∷ 1 ∷ 0 ∷ []) ∷ [])
+row-delays = from-table (
+    (0 ∷ 1 ∷ 2 ∷ 3 ∷ 4 ∷ [])
+    ∷ (1 ∷ 0 ∷ 1 ∷ 2 ∷ 3 ∷ [])
+    ∷ (2 ∷ 1 ∷ 0 ∷ 1 ∷ 2 ∷ [])
+    ∷ (3 ∷ 2 ∷ 1 ∷ 0 ∷ 1 ∷ [])
+    ∷ (4 ∷ 3 ∷ 2 ∷ 1 ∷ 0 ∷ [])
+    ∷ [])
 
 abbrev pub AnyMemberFails : Type 0
-AnyMemberFails = AnyMember row row-delays 0 2 1 2 1 1
+AnyMemberFails = AnyMember row row-delays 2 1 3 2 0
 
 -- Balls of a fixed size.
--- The ball of u has s relays, and the nearest s of v lack the colour c.
-pub record FixedSize (p : Plan Delay) (D : ℕ → ℕ → Delay) (u : ℕ) (zs : List ℕ) (s v : ℕ) (ys : List ℕ) (c : ℕ) : Type 0 where
-  pub measured : Measured p D
-  pub one : View p D u zs s
+-- xs is the ball of u; the first relays that v sees, as many as xs has, lack the colour c.
+pub record FixedSize (p : Plan Delay) (D : ℕ → ℕ → Delay) (u : ℕ) (xs : List ℕ) (v : ℕ) (ys : List ℕ) (c : ℕ) : Type 0 where
+  pub distances : WithDistances p D
+  pub one : Ball Shorter D p u xs
   pub other : Order Shorter D p v ys
   pub is-colour : IsColour (p .colours) c
-  pub lacks : (i : ℕ) → i < s → colour-of p (getD ys i 0) ≡ c → ⊥
+  pub lacks : (i : ℕ) → i < length xs → colour-of p (getD ys i 0) ≡ c → ⊥
 
 abbrev pub FixedSizeFails : Type 0
-FixedSizeFails = FixedSize line line-delays 0 (0 ∷ 1 ∷ 2 ∷ 3 ∷ 4 ∷ 5 ∷ []) 2 2 (2 ∷ 1 ∷ 3 ∷ 0 ∷ 4 ∷ 5 ∷ []) 1
+FixedSizeFails = FixedSize line line-delays 0 (0 ∷ 1 ∷ []) 2 (2 ∷ 1 ∷ 3 ∷ 0 ∷ 4 ∷ 5 ∷ []) 1
 
 -- Ties by the order of entry of links, in place of the number.
 module _ (p : Plan Delay) (D : ℕ → ℕ → Delay) where
@@ -75,7 +83,7 @@ module _ (p : Plan Delay) (D : ℕ → ℕ → Delay) where
 
 -- Relay v is in the ball of u, and one relay on toward it, at r, it is in the ball no more. By number it is.
 pub record EntryOrder (p : Plan Delay) (D : ℕ → ℕ → Delay) (u v r : ℕ) : Type 0 where
-  pub measured : Measured p D
+  pub distances : WithDistances p D
   pub member : EntryBall p D u v
   pub next : Next no-delay both-delays Shorter p u v r
   pub member-no-more : EntryBall p D r v → ⊥

@@ -1,22 +1,27 @@
 -- The order of the relays as one of them sees it, balls and managers.
--- D u v stands for the distance from u to v (`Measures` says so), k for the number of colours.
+-- D u v stands for the distance from u to v (`Distances` of crate measure, specs/Distance.antt, says so).
 use mathlib.Core.Path.{_≡_}
 use mathlib.Core.List.{List}
 use mathlib.Core.Logic.{_⊎_}
 use Prim.Native.Nat.{ℕ, _<_, _≤_}
-use lib.ListN.{length, getD}
+use lib.ListN.{length, getD, take}
 use Rattle.std.specs.shelf.Lists.{All}
-use Rattle.plan.specs.Plan.{Plan, relay}
+use Rattle.plan.specs.Plan.{Plan, colour-of}
 use Rattle.plan.specs.Sound.{IsColour}
-use Rattle.measure.specs.Distance.{Distance}
 
--- the colour of the relay of number x
-abbrev pub colour-of : {C : Type 0} → Plan C → ℕ → ℕ
-colour-of p x = getD (p .relays) x (relay 0 0) .colour
+-- one of the first a of the relays zs has the colour c, where `colouring` tells the colour of a relay
+abbrev pub Met : (ℕ → ℕ) → List ℕ → ℕ → ℕ → Type 0
+Met colouring zs a c = (i : ℕ) × (i < a) × (i < length zs) × (colouring (getD zs i 0) ≡ c)
 
--- D is the distance of the plan
-abbrev pub Measures : {C : Type 0} → C → (C → C → C) → (C → C → Type 0) → Plan C → (ℕ → ℕ → C) → Type 0
-Measures none plus less p D = (u v : ℕ) → u < length (p .relays) → v < length (p .relays) → Distance none plus less p u v (D u v)
+-- the first a of the relays zs have every colour of 1 to k
+abbrev pub Covers : (ℕ → ℕ) → ℕ → List ℕ → ℕ → Type 0
+Covers colouring k zs a = (c : ℕ) → IsColour k c → Met colouring zs a c
+
+-- b is the place, counted from 1, where the last colour is met: the first b relays have every colour, and no fewer have
+pub record BallSize (colouring : ℕ → ℕ) (k : ℕ) (zs : List ℕ) (b : ℕ) : Type 0 where
+  pub within : b ≤ length zs
+  pub covers : Covers colouring k zs b
+  pub least : (a : ℕ) → a < b → Covers colouring k zs a → ⊥
 
 module _ {C : Type 0} (less : C → C → Type 0) (D : ℕ → ℕ → C) where
   -- seen from u, x stands before y: it is nearer, or as near and of a lower number
@@ -24,8 +29,22 @@ module _ {C : Type 0} (less : C → C → Type 0) (D : ℕ → ℕ → C) where
   Before u x y = less (D u x) (D u y) ⊎ ((D u x ≡ D u y) × (x < y))
 
   module _ (p : Plan C) where
-    -- x is in the ball of u: some colour is borne by no relay that stands before x
+    -- zs is the order that u sees: every relay, each before every later one
+    pub record Order (u : ℕ) (zs : List ℕ) : Type 0 where
+      pub count : length zs ≡ length (p .relays)
+      pub relays : All (λ z. z < length (p .relays)) zs
+      pub sorted : (i j : ℕ) → i < j → j < length zs → Before u (getD zs i 0) (getD zs j 0)
+
+    -- xs is the ball of u, the nearest first: the shortest beginning of the order that has every colour
+    pub record Ball (u : ℕ) (xs : List ℕ) : Type 0 where
+      pub order : List ℕ
+      pub seen : Order u order
+      pub size : BallSize (colour-of p) (p .colours) order (length xs)
+      pub begins : xs ≡ take (length xs) order
+
+    -- x is in the ball of u: it is a relay, and some colour of 1 to k is borne by no relay that stands before it
     pub record InBall (u x : ℕ) : Type 0 where
+      pub is-relay : x < length (p .relays)
       pub colour : ℕ
       pub is-colour : IsColour (p .colours) colour
       pub none-before : (y : ℕ) → y < length (p .relays) → colour-of p y ≡ colour → Before u y x → ⊥
@@ -39,19 +58,3 @@ module _ {C : Type 0} (less : C → C → Type 0) (D : ℕ → ℕ → C) where
     -- l is the home landmark of v: its manager for colour 1
     abbrev pub Home : ℕ → ℕ → Type 0
     Home v l = Manager v 1 l
-
-    -- zs is the order that u sees: every relay, each before the next
-    pub record Order (u : ℕ) (zs : List ℕ) : Type 0 where
-      pub count : length zs ≡ length (p .relays)
-      pub relays : All (λ z. z < length (p .relays)) zs
-      pub sorted : (i j : ℕ) → i < j → j < length zs → Before u (getD zs i 0) (getD zs j 0)
-
--- the first a of the relays zs have every colour of k, where `paint` tells the colour of a relay
-abbrev pub Covers : (ℕ → ℕ) → ℕ → List ℕ → ℕ → Type 0
-Covers paint k zs a = (c : ℕ) → IsColour k c → (i : ℕ) × (i < a) × (i < length zs) × (paint (getD zs i 0) ≡ c)
-
--- b is the place where the last colour is met: the first b relays have every colour, and no fewer have
-pub record BallSize (paint : ℕ → ℕ) (k : ℕ) (zs : List ℕ) (b : ℕ) : Type 0 where
-  pub within : b ≤ length zs
-  pub covers : Covers paint k zs b
-  pub least : (a : ℕ) → a < b → Covers paint k zs a → ⊥

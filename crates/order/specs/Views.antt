@@ -1,32 +1,36 @@
--- What an example shows: the distances of a plan of kind delay, and what one relay of it sees.
+-- What an example shows: the distances of a plan of kind delay, and what one relay of it sees, by name.
 use mathlib.Core.Path.{_≡_}
-use mathlib.Core.List.{List, [], _∷_}
-use mathlib.Core.Logic.{_⊎_, _↔_}
-use Prim.Native.Nat.{ℕ, _<_}
-use lib.ListN.{length, getD, take}
+use mathlib.Core.List.{List, [], map}
+use Prim.Native.Nat.{ℕ}
+use lib.ListN.{getD}
 use Rattle.kind.specs.declared.delay.Delay.{Delay}
 use Rattle.kind.specs.Kinds.{delay, no-delay, both-delays, Shorter, DelayLink}
-use Rattle.plan.specs.Plan.{Plan}
-use Rattle.plan.specs.Sound.{Sound}
-use Rattle.order.specs.Seen.{colour-of, Measures, InBall, Order, BallSize}
-
--- x is one of the numbers of the list
-abbrev pub Among : List ℕ → ℕ → Type 0
-Among [] x = ⊥
-Among (y ∷ []) x = x ≡ y
-Among (y ∷ z ∷ ys) x = (x ≡ y) ⊎ Among (z ∷ ys) x
+use Rattle.plan.specs.Plan.{Plan, name-of}
+use Rattle.plan.specs.Sound.{Sound, Bears}
+use Rattle.measure.specs.Distance.{Distances}
+use Rattle.order.specs.Seen.{Ball, Home}
 
 -- the delays that a table holds: a row for each relay, and in it the delay to each
 abbrev pub from-table : List (List ℕ) → ℕ → ℕ → Delay
 from-table rows u v = delay (getD (getD rows u []) v 0)
 
 -- the plan is sound, and D is its distance
-pub record Measured (p : Plan Delay) (D : ℕ → ℕ → Delay) : Type 0 where
+pub record WithDistances (p : Plan Delay) (D : ℕ → ℕ → Delay) : Type 0 where
   pub sound : Sound DelayLink p
-  pub measures : Measures no-delay both-delays Shorter p D
+  pub distances : Distances no-delay both-delays Shorter p D
 
--- relay u sees the relays in the order zs, and its ball is exactly the first b of them
-pub record View (p : Plan Delay) (D : ℕ → ℕ → Delay) (u : ℕ) (zs : List ℕ) (b : ℕ) : Type 0 where
-  pub order : Order Shorter D p u zs
-  pub size : BallSize (colour-of p) (p .colours) zs b
-  pub ball : (x : ℕ) → x < length (p .relays) → InBall Shorter D p u x ↔ Among (take b zs) x
+-- the ball of the relay of name a has the relays of these names, the nearest first
+pub record BallNamed (p : Plan Delay) (D : ℕ → ℕ → Delay) (a : ℕ) (names : List ℕ) : Type 0 where
+  pub centre : ℕ
+  pub called : Bears p centre a
+  pub members : List ℕ
+  pub ball : Ball Shorter D p centre members
+  pub named : map (name-of p) members ≡ names
+
+-- the home landmark of the relay of name a is the relay of name b
+pub record HomeNamed (p : Plan Delay) (D : ℕ → ℕ → Delay) (a b : ℕ) : Type 0 where
+  pub centre : ℕ
+  pub called : Bears p centre a
+  pub landmark : ℕ
+  pub home : Home Shorter D p centre landmark
+  pub named : Bears p landmark b

@@ -1,32 +1,43 @@
-// Two worked examples: the ball of a relay, as numbers of relays, the nearest first.
+// Two worked examples, by the names of the relays.
 ghost use mathlib.Core.Path.{_≡_};
 ghost use mathlib.Core.List.{[], _∷_};
-ghost use Rattle.order.specs.Examples.{BallOfTwelve, BallOfTwenty};
+ghost use Rattle.order.specs.Examples.{SeenFromTwelve, SeenFromTwenty};
 
-fn near_twelve() -> [u16; 3]
-    ensures { λ r. ⌜ r ≡ 2 ∷ 1 ∷ 3 ∷ [] ⌝ }
-{
-    [2, 1, 3]
+// A ball of three relays, the nearest first, and the home landmark, by name.
+pub struct Near {
+    pub ball: [u32; 3],
+    pub home: u32,
 }
 
-fn near_twenty() -> [u16; 2]
-    ensures { λ r. ⌜ r ≡ 0 ∷ 1 ∷ [] ⌝ }
+// Relay 12 and two others, and its home.
+fn near_twelve() -> Near
+    ensures { λ r. ⌜ (r .ball ≡ 12 ∷ 11 ∷ 13 ∷ []) × (r .home ≡ 13) ⌝ }
 {
-    [0, 1]
+    Near {
+        ball: [12, 11, 13],
+        home: 13,
+    }
 }
 
-// The ball of relay 12 among six relays on a line.
-pub fn ball_of_twelve() -> [u16; 3]
-    ensures value { λ r. ⌜ r ≡ 2 ∷ 1 ∷ 3 ∷ [] ⌝ }
-    ensures example { λ _. ⌜ BallOfTwelve ⌝ }
+// Relay 20 and one neighbour.
+fn near_twenty() -> [u32; 2]
+    ensures { λ r. ⌜ r ≡ 20 ∷ 21 ∷ [] ⌝ }
+{
+    [20, 21]
+}
+
+// The ball and the home landmark of relay 12 among six relays on a line.
+pub fn seen_from_twelve() -> Near
+    ensures value { λ r. ⌜ (r .ball ≡ 12 ∷ 11 ∷ 13 ∷ []) × (r .home ≡ 13) ⌝ }
+    ensures stands { λ r. ⌜ SeenFromTwelve (r .ball) (r .home) ⌝ }
 {
     near_twelve()
 }
 
 // The ball of relay 20, which has two neighbours, equally far.
-pub fn ball_of_twenty() -> [u16; 2]
-    ensures value { λ r. ⌜ r ≡ 0 ∷ 1 ∷ [] ⌝ }
-    ensures example { λ _. ⌜ BallOfTwenty ⌝ }
+pub fn seen_from_twenty() -> [u32; 2]
+    ensures value { λ r. ⌜ r ≡ 20 ∷ 21 ∷ [] ⌝ }
+    ensures stands { λ r. ⌜ SeenFromTwenty r ⌝ }
 {
     near_twenty()
 }

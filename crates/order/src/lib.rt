@@ -3,7 +3,9 @@ mod colour;
 mod examples;
 mod mistakes;
 
+pub use colour::LANDMARKS;
 pub use colour::landmark_colour;
-pub use examples::ball_of_twelve;
-pub use examples::ball_of_twenty;
+pub use examples::Near;
+pub use examples::seen_from_twelve;
+pub use examples::seen_from_twenty;
 pub use mistakes::classic_mistakes;

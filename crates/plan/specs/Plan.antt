@@ -1,7 +1,7 @@
 -- A plan: relays in order of entry, numbered from 0, and links between them, in order of entry.
 use mathlib.Core.List.{List, [], _∷_, _++_}
 use Prim.Native.Nat.{ℕ}
-use lib.ListN.{take}
+use lib.ListN.{getD, take}
 use Rattle.plan.specs.declared.ends.Ends.{Ends}
 use Rattle.plan.specs.declared.counts.Counts.{Counts}
 
@@ -33,6 +33,13 @@ with-relay p r = record { colours = p .colours; relays = p .relays ++ r ∷ []; 
 
 abbrev pub with-link : {C : Type 0} → Plan C → Link C → Plan C
 with-link p l = record { colours = p .colours; relays = p .relays; links = p .links ++ l ∷ [] }
+
+-- the name and the colour of the relay of number u, and 0 where there is no such relay
+abbrev pub name-of : {C : Type 0} → Plan C → ℕ → ℕ
+name-of p u = getD (p .relays) u (relay 0 0) .name
+
+abbrev pub colour-of : {C : Type 0} → Plan C → ℕ → ℕ
+colour-of p u = getD (p .relays) u (relay 0 0) .colour
 
 -- two lists side by side, as far as both go
 abbrev pub paired : {A B X : Type 0} → (A → B → X) → List A → List B → List X

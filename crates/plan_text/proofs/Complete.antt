@@ -11,7 +11,7 @@ use Rattle.std.proofs.shelf.Lists.{append-assoc, append-nil, append-cancel-left
 use Rattle.plan.specs.declared.counts.Counts.{Counts}
 use Rattle.plan.specs.declared.draft.Draft.{Draft}
 use Rattle.plan.specs.declared.refusal.Refusal.the-variants.{ColourAbsent, OutOfReach}
-use Rattle.plan.specs.Plan.{Plan, Relay, Link, relay, Lists, plan-in}
+use Rattle.plan.specs.Plan.{Plan, Relay, Link, relay, name-of, Lists, plan-in}
 use Rattle.plan.specs.Walk.{LowestOut}
 use Rattle.plan.specs.Sound.{Sound, SameName, SamePair, IsName, IsColour, Bears, LowestAbsent}
 use Rattle.plan.specs.Checks.{Accepted, Unknown, Joined, Dangling, Closable, relay-refused, link-refused, close-refused}
@@ -21,7 +21,7 @@ use Rattle.plan_text.specs.declared.plan_kind.PlanKind.{PlanKind}
 use Rattle.plan_text.specs.declared.refused.Refused.{Refused}
 use Rattle.plan_text.specs.Rows.{row, TenDigits}
 use Rattle.plan_text.specs.Kinds.{heading-of, TextLaws}
-use Rattle.plan_text.specs.Text.{plan-heading, relay-heading, counts-line, header, relay-line, name-of, link-line, relays-written, links-written, text-of}
+use Rattle.plan_text.specs.Text.{plan-heading, relay-heading, counts-line, header, relay-line, link-line, relays-written, links-written, text-of}
 use Rattle.plan_text.specs.Reading.{Long, Kept, Sofar, Stopped, Read, Fits}
 use Rattle.plan_text.proofs.Lines.{rows-same}
 use Rattle.plan_text.proofs.Unique.{no-two-places, same-relay, joined-next, from-relay, from-link, HeaderTold, RelaysTold, LinksTold, from-header, after-header, after-relays, after-links, numbers-of, numbers-short, numbers-count, Fair, fair-links, text-injective}

@@ -10,12 +10,12 @@ use Rattle.std.specs.shelf.Lists.{All, joined}
 use Rattle.std.proofs.shelf.Elements.{all-getD, all-from-getD}
 use Rattle.std.proofs.shelf.Lists.{append-assoc, append-nil, append-cancel-left, drop-more, drop-all, take-all}
 use Rattle.std.proofs.shelf.Tests.{cases-order}
-use Rattle.plan.specs.Plan.{Plan, Relay, Link, relay}
+use Rattle.plan.specs.Plan.{Plan, Relay, Link, relay, name-of}
 use Rattle.plan.specs.Sound.{Sound, NoTwo, SameName, TwoRelays}
 use Rattle.plan_text.specs.declared.plan_kind.PlanKind.{PlanKind}
 use Rattle.plan_text.specs.Rows.{row, TenDigits}
 use Rattle.plan_text.specs.Kinds.{letter-of, heading-of, TextLaws}
-use Rattle.plan_text.specs.Text.{plan-heading, relay-heading, counts-line, header, relay-line, name-of, link-line, relays-written, links-written, text-of}
+use Rattle.plan_text.specs.Text.{plan-heading, relay-heading, counts-line, header, relay-line, link-line, relays-written, links-written, text-of}
 use Rattle.plan_text.proofs.Lines.{rows-same}
 use Rattle.plan_text.proofs.Blocks.{same-plan}
 

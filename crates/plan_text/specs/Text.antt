@@ -3,9 +3,9 @@ use mathlib.Core.Path.{_≡_}
 use mathlib.Core.List.{List, [], _∷_, _++_}
 use Prim.Native.Nat.{ℕ}
 use lib.Chars.{codes}
-use lib.ListN.{length, getD}
+use lib.ListN.{length}
 use Rattle.std.specs.shelf.Lists.{joined}
-use Rattle.plan.specs.Plan.{Plan, Relay, Link, relay}
+use Rattle.plan.specs.Plan.{Plan, Relay, Link, name-of}
 use Rattle.plan_text.specs.Rows.{row}
 use Rattle.plan_text.specs.Kinds.{letter-of, heading-of}
 use Rattle.plan_text.specs.declared.plan_kind.PlanKind.{PlanKind}
@@ -26,10 +26,6 @@ counts-line kind k n m = letter-of kind ∷ (32 ∷ row (k ∷ (n ∷ (m ∷ [])
 
 abbrev pub relay-line : Relay → List ℕ
 relay-line r = row (r .name ∷ (r .colour ∷ []))
-
--- the name of a relay of the plan
-abbrev pub name-of : {C : Type 0} → Plan C → ℕ → ℕ
-name-of p u = getD (p .relays) u (relay 0 0) .name
 
 -- the names of the two ends, and what is shown of the cost
 abbrev pub link-line : {C : Type 0} → (C → List ℕ) → Plan C → Link C → List ℕ

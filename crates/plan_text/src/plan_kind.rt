@@ -1,8 +1,8 @@
 ghost use mathlib.Core.List.{List, _∷_, _++_};
 ghost use mathlib.Core.Path.{_≡_};
 ghost use Rattle.std.specs.Options.{Cases as BySome};
-ghost use Prim.Native.Nat.{ℕ};
-ghost use lib.ListN.{drop};
+ghost use Prim.Native.Nat.{ℕ, _<_};
+ghost use lib.ListN.{length, getD, drop};
 ghost use Rattle.plan_text.specs.Kinds.{letter-of, label-of, heading-of};
 ghost use Rattle.plan_text.specs.Text.{plan-heading, Lacks};
 use crate::scan::literal;
@@ -26,6 +26,14 @@ impl PlanKind {
         }
     }
 
+    // The kind whose letter stands at this place of a text.
+    fn at(text: &[u8], place: usize) -> Option<PlanKind>
+        requires { ⌜ place < length (now text) ⌝ }
+        ensures { λ r. ⌜ BySome r ((k : PlanKind) → letter-of k ≡ getD (now (text .entry)) place 0 → ⊥) (λ k. letter-of k ≡ getD (now (text .entry)) place 0) ⌝ }
+    {
+        PlanKind::from_letter(char::from(text[place]))
+    }
+
     // The kind whose letter begins the second line of a plan's text.
     pub fn of_text(text: &[u8]) -> Option<PlanKind>
         ensures { λ r. ⌜ BySome r ((k : PlanKind) (rest : List ℕ) → now (text .entry) ≡ plan-heading ++ letter-of k ∷ rest → ⊥) (λ k. (rest : List ℕ) × (now (text .entry) ≡ plan-heading ++ letter-of k ∷ rest)) ⌝ }
@@ -36,7 +44,7 @@ impl PlanKind {
         if at >= text.len() {
             return None;
         }
-        PlanKind::from_letter(char::from(text[at]))
+        PlanKind::at(text, at)
     }
 
     // Where a text goes on behind the letter of this kind and a space, if they stand at `at`.
@@ -46,7 +54,7 @@ impl PlanKind {
         if at >= text.len() {
             return None;
         }
-        let Some(found) = PlanKind::from_letter(char::from(text[at])) else {
+        let Some(found) = PlanKind::at(text, at) else {
             return None;
         };
         if found == self {

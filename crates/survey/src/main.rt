@@ -1,6 +1,7 @@
 // Surveys the plan in plan.txt, and prints each thing that it does.
 mod near;
 
+use balls::Neighbourhoods;
 use kind::Cost;
 use kind::Delay;
 use kind::DelayCost;
@@ -8,8 +9,10 @@ use kind::DelayDisplay;
 use kind::Paid;
 use kind::PaidCost;
 use kind::PaidDisplay;
+use measure::Measured;
 use measure::Square;
 use measure::measure;
+use near::name_of;
 use near::print_balls;
 use plan::Closed;
 use plan::Counts;
@@ -55,7 +58,7 @@ fn print_end(
     link: usize,
     relay: u16,
 ) -> io::Result<()> {
-    let name = names.get(usize::from(relay)).copied().unwrap_or(0);
+    let name = name_of(names, relay);
     match port_at(ends, link, relay) {
         Some(port) => print!(rt, " {name} (port {port})"),
         None => print!(rt, " {name} (no port)"),
@@ -152,7 +155,7 @@ fn print_nexts(rt: &impl Print, names: &[u32], nexts: &[u16]) -> io::Result<()> 
         print!(rt, "{name:>16}")?;
         for v in 0..names.len() {
             if let Some(next) = square.get(nexts, u, v) {
-                let next = names.get(usize::from(next)).copied().unwrap_or(0);
+                let next = name_of(names, next);
                 print!(rt, " {next:>16}")?;
             }
         }
@@ -168,6 +171,23 @@ fn named(counts: Counts, names: &[u32]) -> &[u32] {
         &names[0..relays]
     } else {
         names
+    }
+}
+
+// Prints what each relay of a measured plan has near it.
+fn print_near<'a, C: Cost>(
+    rt: &LibcRuntime,
+    measured: &Measured,
+    names: &[u32],
+    colours: &'a [u8],
+    distances: &'a [C],
+) -> io::Result<()> {
+    match Neighbourhoods::new(measured, colours, distances) {
+        Ok(near) => print_balls(rt, names, &near, measured.counts().colours),
+        Err(refusal) => {
+            let number = refusal.number();
+            println!(rt, "refused {number} by the neighbourhoods")
+        }
     }
 }
 
@@ -194,16 +214,10 @@ fn print_measures<C: Cost + Clone + Field>(
         &mut distances,
         &mut nexts,
     ) {
-        Ok(_) => {
+        Ok(measured) => {
             print_distances(rt, named(counts, names), &distances)?;
             print_nexts(rt, named(counts, names), &nexts)?;
-            print_balls(
-                rt,
-                named(counts, names),
-                colours,
-                counts.colours,
-                &distances,
-            )
+            print_near(rt, &measured, named(counts, names), colours, &distances)
         }
         Err(back) => {
             let (_, refusal) = back;

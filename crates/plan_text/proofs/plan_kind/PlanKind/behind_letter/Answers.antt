@@ -25,31 +25,31 @@ module _ (text : List ℕ) (at : ℕ) (k : PlanKind) where
   ended : length text ≤ at → Lacks (drop at text) (label-of k)
   ended h rest e = let size = ap length (sym (drop-all at text h) ∙ e) in omega (arith, size)
 
-  module _ (h : at < length text) (b : ℕ) (byte : b ≡ getD text at 0) where
+  module _ (h : at < length text) where
     -- another byte stands there
-    another : (letter-of k ≡ b → ⊥) → Lacks (drop at text) (label-of k)
-    another no-letter rest e = no-letter (sym (byte ∙ ap (λ (xs : List ℕ). getD xs 0 0) (sym (drop-more text at 0 h) ∙ e)))
+    another : (letter-of k ≡ getD text at 0 → ⊥) → Lacks (drop at text) (label-of k)
+    another no-letter rest e = no-letter (sym (ap (λ (xs : List ℕ). getD xs 0 0) (sym (drop-more text at 0 h) ∙ e)))
 
     -- the letter stands there: what comes of the space behind it
-    letter : letter-of k ≡ b → (r : Option ℕ)
+    letter : letter-of k ≡ getD text at 0 → (r : Option ℕ)
         → Cases r ((rest : List ℕ) → drop (at + 1) text ≡ 32 ∷ rest → ⊥) (λ p. (p ≤ length text) × (drop (at + 1) text ≡ 32 ∷ drop p text))
         → Cases r (Lacks (drop at text) (label-of k)) (λ p. drop at text ≡ label-of k ++ drop p text)
-    letter l None none = λ rest e. none rest (append-cancel-left (b ∷ []) _ _ (ap (λ (x : ℕ). x ∷ drop (at + 1) text) byte ∙ sym (drop-more text at 0 h) ∙ e ∙ ap (λ (x : ℕ). x ∷ (32 ∷ rest)) l))
-    letter l (Some p) found = drop-more text at 0 h ∙ ap (λ (x : ℕ). x ∷ drop (at + 1) text) (sym (l ∙ byte)) ∙ ap (λ (xs : List ℕ). letter-of k ∷ xs) (found .1)
+    letter l None none = λ rest e. none rest (append-cancel-left (getD text at 0 ∷ []) _ _ (sym (drop-more text at 0 h) ∙ e ∙ ap (λ (x : ℕ). x ∷ (32 ∷ rest)) l))
+    letter l (Some p) found = drop-more text at 0 h ∙ ap (λ (x : ℕ). x ∷ drop (at + 1) text) (sym l) ∙ ap (λ (xs : List ℕ). letter-of k ∷ xs) (found .1)
 
 pub returns-then-at-text : need.returns-then-at-text
 returns-then-at-text c = ended (c .args .text .now) (c .args .at) (c .args .self) (c .if-at-text .taken)
 
 pub returns-in-rest : need.returns-in-rest
 returns-in-rest c =
-    another (c .args .text .now) (c .args .at) (c .args .self) (c .if-at-text .left) (c .from .result) (c .from .ensures) (c .in-rest .ensures tt (c .args .self))
+    another (c .args .text .now) (c .args .at) (c .args .self) (c .if-at-text .left) (c .in-rest .ensures tt (c .args .self))
 
 pub returns-then-eq : need.returns-then-eq
 returns-then-eq c =
-    letter (c .args .text .now) (c .args .at) (c .args .self) (c .if-at-text .left) (c .from .result) (c .from .ensures)
+    letter (c .args .text .now) (c .args .at) (c .args .self) (c .if-at-text .left)
     (ap letter-of (sym (c .if-eq .ensures tt)) ∙ c .in-Some .ensures tt) (c .literal .result) (c .literal .ensures)
 
 pub returns-else-eq : need.returns-else-eq
 returns-else-eq c =
-    another (c .args .text .now) (c .args .at) (c .args .self) (c .if-at-text .left) (c .from .result) (c .from .ensures)
+    another (c .args .text .now) (c .args .at) (c .args .self) (c .if-at-text .left)
     (λ l. c .if-eq .ensures tt (same-kind _ _ (c .in-Some .ensures tt ∙ sym l)))

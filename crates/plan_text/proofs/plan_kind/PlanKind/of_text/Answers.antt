@@ -21,14 +21,14 @@ module _ (text : List ℕ) (at : ℕ) (headed : text ≡ plan-heading ++ drop at
   none-there h k rest e = let size = ap length (sym (drop-all at text h) ∙ behind k rest e) in omega (arith, size)
 
   -- the byte behind the heading is the letter, or is none
-  letter-there : at < length text → (b : ℕ) → b ≡ getD text at 0 → (r : Option PlanKind) → Cases r ((k : PlanKind) → letter-of k ≡ b → ⊥) (λ k. letter-of k ≡ b)
+  letter-there : at < length text → (r : Option PlanKind) → Cases r ((k : PlanKind) → letter-of k ≡ getD text at 0 → ⊥) (λ k. letter-of k ≡ getD text at 0)
       → Cases r ((k : PlanKind) (rest : List ℕ) → text ≡ plan-heading ++ (letter-of k ∷ rest) → ⊥) (λ k. (rest : List ℕ) × (text ≡ plan-heading ++ (letter-of k ∷ rest)))
-  letter-there h b byte None none = λ k rest e. none k (sym (byte ∙ ap (λ (xs : List ℕ). getD xs 0 0) (sym (drop-more text at 0 h) ∙ behind k rest e)))
-  letter-there h b byte (Some k) same =
-      (drop (at + 1) text, headed ∙ ap (λ (xs : List ℕ). plan-heading ++ xs) (drop-more text at 0 h ∙ ap (λ (x : ℕ). x ∷ drop (at + 1) text) (sym (same ∙ byte))))
+  letter-there h None none = λ k rest e. none k (sym (ap (λ (xs : List ℕ). getD xs 0 0) (sym (drop-more text at 0 h) ∙ behind k rest e)))
+  letter-there h (Some k) same =
+      (drop (at + 1) text, headed ∙ ap (λ (xs : List ℕ). plan-heading ++ xs) (drop-more text at 0 h ∙ ap (λ (x : ℕ). x ∷ drop (at + 1) text) (sym same)))
 
 pub returns-then-at-text : need.returns-then-at-text
 returns-then-at-text c = none-there (c .args .text .now) (c .in-Some .at) (c .in-Some .ensures tt .1) (c .if-at-text .taken)
 
 pub returns : need.returns
-returns c = letter-there (c .args .text .now) (c .in-Some .at) (c .in-Some .ensures tt .1) (c .if-at-text .left) (c .from .result) (c .from .ensures) (c .from-letter .result) (c .from-letter .ensures)
+returns c = letter-there (c .args .text .now) (c .in-Some .at) (c .in-Some .ensures tt .1) (c .if-at-text .left) (c .at .result) (c .at .ensures)
