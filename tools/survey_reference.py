@@ -2,9 +2,9 @@
 """What the program survey must print for a plan that can be closed, by networkx.
 
     tools/survey_reference.py PLAN           prints it
-    tools/survey_reference.py --random N     compares N random plans with the program target/bin/survey
+    tools/survey_reference.py --random N     compares N random plans with the program crates/survey/out/survey
 
-The second wants the program, which `rt check survey` builds. Both stand outside the gate.
+The second wants the program, which `./survey PLAN` builds. Both stand outside the gate.
 """
 import random
 import subprocess
@@ -105,7 +105,7 @@ def random_plan(rng):
 
 
 def compare(count):
-    program = Path(__file__).resolve().parent.parent / "target/bin/survey"
+    program = Path(__file__).resolve().parent.parent / "crates/survey/out/survey"
     rng = random.Random(7)
     different = 0
     for _ in range(count):

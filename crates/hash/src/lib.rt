@@ -1,4 +1,7 @@
 // Name hashes: for each number of colours one fixed function from names to colours. Two of them, the remainder and FNV-1a.
+
+#![tactic(auto)]
+
 mod fnv;
 mod name_hash;
 mod remainder;

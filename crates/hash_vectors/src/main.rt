@@ -1,4 +1,7 @@
 // Compares the hashes of crate hash with the published vectors of 32-bit FNV-1a.
+
+#![tactic(auto)]
+
 ghost use Rattle.std.specs.Prelude.{◌≡◌, ◌+◌, ◌-◌, ◌*◌, ◌^◌, min, ◌≢◌, slice_index};
 ghost use Rattle.hash.specs.Fnv1a.{fnv_hash, bytes_of};
 

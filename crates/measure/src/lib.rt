@@ -1,4 +1,7 @@
 // Distances between the relays of a plan, and the next relay from each toward each other.
+
+#![tactic(auto)]
+
 mod example;
 mod hops;
 mod incidence;

@@ -1,4 +1,7 @@
 // The order of the relays as one of them sees it: balls and managers.
+
+#![tactic(auto)]
+
 mod colour;
 mod examples;
 mod mistakes;

@@ -1,4 +1,7 @@
 // A plan of relays and links: drafted step by step, then closed.
+
+#![tactic(auto)]
+
 mod closed;
 mod counts;
 mod draft;

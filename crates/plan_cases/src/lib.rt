@@ -1,3 +1,6 @@
 // Tests of a draft's limits.
+
+#![tactic(auto)]
+
 #[cfg(test)]
 mod limits;

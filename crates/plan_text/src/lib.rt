@@ -1,4 +1,7 @@
 // Reads the text of a plan.
+
+#![tactic(auto)]
+
 mod plan_kind;
 mod read;
 mod refused;

@@ -1,4 +1,7 @@
 // Surveys the plan in plan.txt, and prints each thing that it does.
+
+#![tactic(auto)]
+
 mod near;
 
 use balls::Neighbourhoods;

@@ -1,5 +1,8 @@
 // Reads each text of a table, and prints what came of it.
 // A line of cases.txt is a name, a bar and a text, in which a slash stands for the end of a line.
+
+#![tactic(auto)]
+
 use kind::{Cost, Delay, Paid};
 use plan::{Ends, Refusal};
 use plan_text::{PlanKind, TextCost, read_plan};

@@ -8,7 +8,7 @@ pub loop-byte-preserved : goal.loop-byte-preserved
 loop-byte-preserved c =
     let byte = get_or c.args.bytes.now c.loop-byte.byte-index 0 in
     let more = fold_more step 2166136261 c.args.bytes.now c.loop-byte.byte-index 0 c.loop-byte-test.true in
-    c.fnv-step-hash.ensures ∙ ap (λ hash. step hash byte) c.loop-byte.invariant ∙ sym more
+    c.fnv_step-hash.ensures ∙ ap (λ hash. step hash byte) c.loop-byte.invariant ∙ sym more
 
 pub returns : goal.returns
 returns c =

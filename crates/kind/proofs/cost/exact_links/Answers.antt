@@ -2,4 +2,4 @@ use Rattle.kind.proofs.Sums.{theory}
 use Rattle.kind.proofs.cost.exact_links.Goals as goal
 
 pub returns : goal.returns
-returns g c = record { value = c.most-links.ensures; theory = theory g.C.Cost.laws }
+returns g c = record { value = c.most_links.ensures; theory = theory g.C.Cost.laws }

@@ -7,9 +7,9 @@ use Rattle.measure.proofs.example.paid_example.Goals as goal
 
 pub returns : goal.returns
 returns c =
-    let is = c.round-over-the-middle.ensures in
+    let is = c.round_over_the_middle.ensures in
     record {
       value = is;
-      stands = subst (λ (d : Paid). FromFirstToLast d c.round-over-the-middle.result.1) (sym is.0)
+      stands = subst (λ (d : Paid). FromFirstToLast d c.round_over_the_middle.result.1) (sym is.0)
           (subst (λ (r : ℕ). FromFirstToLast (paid 0 10) r) (sym is.1) three_stands);
     }

@@ -11,13 +11,13 @@ cut xs k n e = ap (λ (m : ℕ). take m xs) (omega arith)
 fitted : {A : Type 0} (xs : List A) (k n : ℕ) → k ≡ n → k * k ≤ length xs → n * n ≤ length xs
 fitted xs k n e h = subst (λ (m : ℕ). m * m ≤ length xs) e h
 
-pub returns-then-is-loose : goal.returns-then-is-loose
-returns-then-is-loose g c =
+pub returns-then-is_loose : goal.returns-then-is_loose
+returns-then-is_loose g c =
     broken g.C.Cost.none c.args.counts c.args.names.now c.args.colours.now c.args.ends.now c.args.costs.now c.args.distances.now c.args.nexts.now
     (decided_not _ _ c.exceed.ensures c.if-exceed.false) _ (cut c.args.ends.now _ _ c.from-links.ensures)
     (fitted c.args.distances.now _ _ (c.new-square.ensures ∙ c.from.ensures) (c.fits.ensures.0 c.if-not-fits.false))
     (fitted c.args.nexts.now _ _ (c.new-square.ensures ∙ c.from.ensures) (c.fits-else-not-fits.ensures.0 c.if-not-fits-2.false))
-    (c.is-loose.ensures.0 c.if-is-loose.true)
+    (c.is_loose.ensures.0 c.if-is_loose.true)
 
 pub returns : goal.returns
 returns g c =
@@ -25,4 +25,4 @@ returns g c =
     (decided_not _ _ c.exceed.ensures c.if-exceed.false) _ (cut c.args.ends.now _ _ c.from-links.ensures)
     (fitted c.args.distances.now _ _ (c.new-square.ensures ∙ c.from.ensures) (c.fits.ensures.0 c.if-not-fits.false))
     (fitted c.args.nexts.now _ _ (c.new-square.ensures ∙ c.from.ensures) (c.fits-else-not-fits.ensures.0 c.if-not-fits-2.false))
-    (decided_not _ _ c.is-loose.ensures c.if-is-loose.false)
+    (decided_not _ _ c.is_loose.ensures c.if-is_loose.false)

@@ -9,14 +9,14 @@ use Rattle.measure.proofs.Cells.{cell_inside}
 use Rattle.measure.proofs.Stepping.{pair_within, no_step, lowest_none, lowest_still, lowest_taken, lowest_left, lowest_skipped}
 use Rattle.measure.proofs.next.next_toward.Given as given
 use Rattle.measure.proofs.next.next_toward.Goals as goal
-use Rattle.measure.proofs.next.next_toward.Goals.{in-Some+then-adds-up, in-Some+else-adds-up, in-default}
+use Rattle.measure.proofs.next.next_toward.Goals.{in-Some+then-adds_up, in-Some+else-adds_up, in_default}
 
 -- an element, read at a cell
 read_at : {C : Type 0} (cells : List C) (k i : ℕ) (c d : C) → k ≡ i → i < length cells → c ≡ get_or cells k c → c ≡ get_or cells i d
 read_at cells k i c d e h r = get_or_read cells k c (omega arith) r d ∙ ap (λ (j : ℕ). get_or cells j d) e
 
-pub offset-bounds-distances-cell : goal.offset-bounds-distances-cell
-offset-bounds-distances-cell g c = omega (arith, cell_inside c.args.relays c.args.from c.args.to c.requires.inside c.requires.target)
+pub offset_bounds-distances-cell : goal.offset_bounds-distances-cell
+offset_bounds-distances-cell g c = omega (arith, cell_inside c.args.relays c.args.from c.args.to c.requires.inside c.requires.target)
 
 pub bounds-distances-cell : goal.bounds-distances-cell
 bounds-distances-cell g c = omega (arith, cell_inside c.args.relays c.args.from c.args.to c.requires.inside c.requires.target)
@@ -46,8 +46,8 @@ beyond g c =
           (pair_within c.args.ends.now c.args.relays c.loop-k.k c.args.from c.in-Some.x c.requires.firm.within c.loop-k-test.true c.in-Some.ensures.0) c.requires.target,
     )
 
-pub offset-bounds-distances-cell-in-Some : goal.offset-bounds-distances-cell-in-Some
-offset-bounds-distances-cell-in-Some g c = omega (arith, beyond g c)
+pub offset_bounds-distances-cell-in-Some : goal.offset_bounds-distances-cell-in-Some
+offset_bounds-distances-cell-in-Some g c = omega (arith, beyond g c)
 
 pub bounds-distances-cell-in-Some : goal.bounds-distances-cell-in-Some
 bounds-distances-cell-in-Some g c = omega (arith, beyond g c)
@@ -68,21 +68,21 @@ loop-k-preserved g c =
           (pair_within c.args.ends.now c.args.relays c.loop-k.k c.args.from x c.requires.firm.within c.loop-k-test.true pair) c.requires.target,
     ) in
     let more : LowestStep g.C.Cost.none g.C.Cost.adds c.args.ends.now c.args.costs.now c.args.relays c.args.distances.now c.args.from c.args.to (c.loop-k.k + 1) c.match-across.lowest = elim c.match-across.branch [
-      | in-Some+then-adds-up w ↦
+      | in-Some+then-adds_up w ↦
           lowest_taken g.C.Cost.none g.C.Cost.adds c.args.ends.now c.args.costs.now c.args.relays c.args.distances.now c.args.from c.args.to
           c.loop-k.k w.in-Some.x w.in-Some.ensures.0 w.in-Some.ensures.1 _ _ _ whole
           (over_link c.args.costs.now c.loop-k.k _ w.index-costs-k.result g.C.Cost.none c.requires.firm.same c.loop-k-test.true w.index-costs-k.is)
           (read_at c.args.distances.now w.cell-in-Some.result _ w.index-distances-cell-in-Some.result g.C.Cost.none w.cell-in-Some.ensures (far w.in-Some.x w.in-Some.ensures.0) w.index-distances-cell-in-Some.is)
-          c.loop-k.lowest w.min-lowest.result c.match-across.lowest w.lowest-is w.min-lowest.ensures (w.adds-up.ensures.0 w.if-adds-up.true) c.loop-k.invariant.1
-      | in-Some+else-adds-up w ↦
+          c.loop-k.lowest w.min-lowest.result c.match-across.lowest w.lowest-is w.min-lowest.ensures (w.adds_up.ensures.0 w.if-adds_up.true) c.loop-k.invariant.1
+      | in-Some+else-adds_up w ↦
           lowest_left g.C.Cost.none g.C.Cost.adds c.args.ends.now c.args.costs.now c.args.relays c.args.distances.now c.args.from c.args.to
           c.loop-k.k w.in-Some.x w.in-Some.ensures.0 w.in-Some.ensures.1 _ _ _ whole
           (over_link c.args.costs.now c.loop-k.k _ w.index-costs-k.result g.C.Cost.none c.requires.firm.same c.loop-k-test.true w.index-costs-k.is)
           (read_at c.args.distances.now w.cell-in-Some.result _ w.index-distances-cell-in-Some.result g.C.Cost.none w.cell-in-Some.ensures (far w.in-Some.x w.in-Some.ensures.0) w.index-distances-cell-in-Some.is)
-          c.loop-k.lowest c.match-across.lowest w.lowest-is (decided_not _ _ w.adds-up.ensures w.if-adds-up.false) c.loop-k.invariant.1
-      | in-default w ↦
+          c.loop-k.lowest c.match-across.lowest w.lowest-is (decided_not _ _ w.adds_up.ensures w.if-adds_up.false) c.loop-k.invariant.1
+      | in_default w ↦
           lowest_still g.C.Cost.none g.C.Cost.adds c.args.ends.now c.args.costs.now c.args.relays c.args.distances.now c.args.from c.args.to
-          c.loop-k.k c.loop-k.lowest c.match-across.lowest w.lowest-is (λ b s. w.in-default.ensures b s.0) c.loop-k.invariant.1
+          c.loop-k.k c.loop-k.lowest c.match-across.lowest w.lowest-is (λ b s. w.in_default.ensures b s.0) c.loop-k.invariant.1
     ] in (
       c.after-k.ensures.most,
       lowest_skipped g.C.Cost.none g.C.Cost.adds c.args.ends.now c.args.costs.now c.args.relays c.args.distances.now c.args.from c.args.to

@@ -5,9 +5,9 @@ use Rattle.measure.proofs.next.nexts_from.Goals as goal
 
 pub loop-x-preserved : goal.loop-x-preserved
 loop-x-preserved g c =
-    cells_more c.loop-x.row c.loop-x.x c.next-toward.result 0
+    cells_more c.loop-x.row c.loop-x.x c.next_toward.result 0
     (λ y r. Toward g.C.Cost.none g.C.Cost.adds c.args.ends.now c.args.costs.now c.args.relays c.args.distances.now c.args.from y r)
-    (omega arith) c.loop-x.invariant c.next-toward.ensures.toward
+    (omega arith) c.loop-x.invariant c.next_toward.ensures.toward
 
 pub returns : goal.returns
 returns g c = λ x l. c.loop-x.invariant x (omega arith)

@@ -31,4 +31,4 @@ loop-next-preserved g c = (
 pub returns : goal.returns
 returns g c = λ p entered sound x w.
     row_distances g.C.Cost.laws c.args.ends.now c.args.costs.now c.requires.firm.same c.args.relays c.args.source p entered sound c.requires.inside
-    c.loop-next.known c.loop-next.row c.loop-next.settled (c.loop-next.invariant.2 p entered sound) c.in-default.ensures x w
+    c.loop-next.known c.loop-next.row c.loop-next.settled (c.loop-next.invariant.2 p entered sound) c.in_default.ensures x w

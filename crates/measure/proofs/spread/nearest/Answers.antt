@@ -14,10 +14,10 @@ loop-x-preserved-then-settled-x g c =
     (λ o. absurd (both_ways _ o c.if-settled-x.true))
     c.loop-x.invariant
 
-pub loop-x-preserved-in-default : goal.loop-x-preserved-in-default
-loop-x-preserved-in-default g c =
+pub loop-x-preserved-in_default : goal.loop-x-preserved-in_default
+loop-x-preserved-in_default g c =
     best_skip g.C.Cost.laws (near_of c.args.known.now c.args.row.now) c.args.settled.now c.loop-x.x c.loop-x.best
-    (λ o. sym c.in-default.ensures)
+    (λ o. sym c.in_default.ensures)
     c.loop-x.invariant
 
 pub loop-x-preserved : goal.loop-x-preserved
@@ -28,12 +28,12 @@ loop-x-preserved g c =
           subst (λ (b : Option (Reached g.row.C.Denot)). BestOf g.C.Cost.less (near_of c.args.known.now c.args.row.now) c.args.settled.now (c.loop-x.x + 1) b) (sym w.best-is)
           (best_take g.C.Cost.laws (near_of c.args.known.now c.args.row.now) c.args.settled.now c.loop-x.x c.in-Some.cost here c.loop-x.best
           c.if-settled-x.false
-          (subst (λ (o : Option g.row.C.Denot). Improves g.C.Cost.less o c.in-Some.cost) c.best-cost.ensures (c.improves.ensures.0 w.if-improves.true))
+          (subst (λ (o : Option g.row.C.Denot). Improves g.C.Cost.less o c.in-Some.cost) c.best_cost.ensures (c.improves.ensures.0 w.if-improves.true))
           c.loop-x.invariant)
       | else-improves w ↦
           subst (λ (b : Option (Reached g.row.C.Denot)). BestOf g.C.Cost.less (near_of c.args.known.now c.args.row.now) c.args.settled.now (c.loop-x.x + 1) b) (sym w.best-is)
           (best_keep g.C.Cost.laws (near_of c.args.known.now c.args.row.now) c.args.settled.now c.loop-x.x c.in-Some.cost here c.loop-x.best
-          (λ i. decided_not _ _ c.improves.ensures w.if-improves.false (subst (λ (o : Option g.row.C.Denot). Improves g.C.Cost.less o c.in-Some.cost) (sym c.best-cost.ensures) i))
+          (λ i. decided_not _ _ c.improves.ensures w.if-improves.false (subst (λ (o : Option g.row.C.Denot). Improves g.C.Cost.less o c.in-Some.cost) (sym c.best_cost.ensures) i))
           c.loop-x.invariant)
     ]
 

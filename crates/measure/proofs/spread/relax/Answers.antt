@@ -5,7 +5,7 @@ use Rattle.measure.specs.Incidence.{Skips}
 use Rattle.measure.proofs.Chaining.{first_skips}
 use Rattle.measure.proofs.Relaxing.{no_links, link_here, link_elsewhere, links_skipped}
 use Rattle.measure.proofs.spread.relax.Goals as goal
-use Rattle.measure.proofs.spread.relax.Goals.{in-Some, in-default}
+use Rattle.measure.proofs.spread.relax.Goals.{in-Some, in_default}
 
 -- the same lists under other names
 moved : {C : Type 0} (less : C → C → Type 0) (offers : ℕ → C → Type 0) (old : List (Option C)) {known known' : List Bool} {row row' : List C} → known' ≡ known → row' ≡ row
@@ -36,10 +36,10 @@ loop-k-preserved g c =
           w.in-Some.ensures.0 w.in-Some.ensures.1 refl
           (w.add.ensures ∙ ap (g.C.Cost.adds c.args.cost) (get_or_read c.args.costs.now c.loop-k.k w.index-costs-k.result (omega arith) w.index-costs-k.is g.C.Cost.none))
           c.loop-k.invariant.1 w.offer.ensures)
-      | in-default w ↦
+      | in_default w ↦
           moved g.C.Cost.less _ (near_of c.args.known.now c.args.row.now) w.known-is w.row-is
           (link_elsewhere g.C.Cost.laws c.args.ends.now c.args.costs.now c.args.at c.args.cost c.loop-k.k
-          (near_of c.args.known.now c.args.row.now) (near_of c.loop-k.known c.loop-k.row) w.in-default.ensures c.loop-k.invariant.1)
+          (near_of c.args.known.now c.args.row.now) (near_of c.loop-k.known c.loop-k.row) w.in_default.ensures c.loop-k.invariant.1)
     ] in (
       c.after-k.ensures.most,
       links_skipped g.C.Cost.laws c.args.ends.now c.args.costs.now c.args.at c.args.cost (c.loop-k.k + 1) c.after-k.result

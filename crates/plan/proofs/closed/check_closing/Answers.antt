@@ -13,29 +13,29 @@ returns-in-Some g c =
     (decided_not _ _ c.exceed.ensures c.if-exceed.false) _ (cut c.args.colours.now _ _ c.from-relays.ensures)
     c.in-Some.colour c.in-Some.ensures
 
-pub returns-then-is-loose : goal.returns-then-is-loose
-returns-then-is-loose g c =
+pub returns-then-is_loose : goal.returns-then-is_loose
+returns-then-is_loose g c =
     broken g.C.Cost.none c.args.counts c.args.names.now c.args.colours.now c.args.ends.now c.args.costs.now
     (decided_not _ _ c.exceed.ensures c.if-exceed.false) _ (cut c.args.colours.now _ _ c.from-relays.ensures)
-    c.in-default.ensures _ (cut c.args.ends.now _ _ c.from-links.ensures)
-    (c.is-loose.ensures.0 c.if-is-loose.true)
+    c.in_default.ensures _ (cut c.args.ends.now _ _ c.from-links.ensures)
+    (c.is_loose.ensures.0 c.if-is_loose.true)
 
-pub returns-in-Some-first-out : goal.returns-in-Some-first-out
-returns-in-Some-first-out g c =
+pub returns-in-Some-first_out : goal.returns-in-Some-first_out
+returns-in-Some-first_out g c =
     out g.C.Cost.none c.args.counts c.args.names.now c.args.colours.now c.args.ends.now c.args.costs.now
     (decided_not _ _ c.exceed.ensures c.if-exceed.false) _ (cut c.args.colours.now _ _ c.from-relays.ensures)
-    c.in-default.ensures _ (cut c.args.ends.now _ _ c.from-links.ensures)
-    (decided_not _ _ c.is-loose.ensures c.if-is-loose.false)
-    c.in-Some-first-out.relay c.in-Some-first-out.ensures
+    c.in_default.ensures _ (cut c.args.ends.now _ _ c.from-links.ensures)
+    (decided_not _ _ c.is_loose.ensures c.if-is_loose.false)
+    c.in-Some-first_out.relay c.in-Some-first_out.ensures
 
 pub returns : goal.returns
 returns g c = (
   accepted g.C.Cost.none c.args.counts c.args.names.now c.args.colours.now c.args.ends.now c.args.costs.now
       (decided_not _ _ c.exceed.ensures c.if-exceed.false) _ (cut c.args.colours.now _ _ c.from-relays.ensures)
-      c.in-default.ensures _ (cut c.args.ends.now _ _ c.from-links.ensures)
-      (decided_not _ _ c.is-loose.ensures c.if-is-loose.false) c.in-default-first-out.ensures,
+      c.in_default.ensures _ (cut c.args.ends.now _ _ c.from-links.ensures)
+      (decided_not _ _ c.is_loose.ensures c.if-is_loose.false) c.in_default-first_out.ensures,
   closable g.C.Cost.none c.args.counts c.args.names.now c.args.colours.now c.args.ends.now c.args.costs.now
       (decided_not _ _ c.exceed.ensures c.if-exceed.false) _ (cut c.args.colours.now _ _ c.from-relays.ensures)
-      c.in-default.ensures _ (cut c.args.ends.now _ _ c.from-links.ensures)
-      (decided_not _ _ c.is-loose.ensures c.if-is-loose.false) c.in-default-first-out.ensures,
+      c.in_default.ensures _ (cut c.args.ends.now _ _ c.from-links.ensures)
+      (decided_not _ _ c.is_loose.ensures c.if-is_loose.false) c.in_default-first_out.ensures,
 )

@@ -61,35 +61,35 @@ module _ {C : Type 0} (lawful : C → Type 0) (n : Counts) (names colours : List
     passed differ apart h =
         pass_both _ _ (passes _ _ no_short) (pass_both _ _ (passes _ _ within) (pass_both _ _ (passes _ _ (good differ apart)) (passes _ _ h)))
 
-pub returns-in-default : goal.returns-in-default
-returns-in-default g c =
+pub returns-in_default : goal.returns-in_default
+returns-in_default g c =
     bad g.C.Cost.link c.args.counts c.args.names.now c.args.colours.now c.args.ends.now c.args.costs.now c.args.from c.args.to c.args.cost
-    c.exceed.result c.exceed.ensures c.if-exceed.false (omega arith) (omega arith) (c.is-link.ensures.0 c.if-not-is-link.false)
+    c.exceed.result c.exceed.ensures c.if-exceed.false (omega arith) (omega arith) (c.is_link.ensures.0 c.if-not-is_link.false)
     c.from-relays.result c.from-relays.ensures
     (inl (inl (unknown_of g.C.Cost.link c.args.counts c.args.names.now c.args.colours.now c.args.ends.now c.args.costs.now c.args.from c.args.to c.args.cost
-    c.exceed.result c.exceed.ensures c.if-exceed.false (omega arith) (omega arith) (c.is-link.ensures.0 c.if-not-is-link.false)
+    c.exceed.result c.exceed.ensures c.if-exceed.false (omega arith) (omega arith) (c.is_link.ensures.0 c.if-not-is_link.false)
     c.from-relays.result c.from-relays.ensures
-    c.args.from c.in-default.ensures)))
+    c.args.from c.in_default.ensures)))
 
-pub returns-in-default-find : goal.returns-in-default-find
-returns-in-default-find g c =
+pub returns-in_default-find : goal.returns-in_default-find
+returns-in_default-find g c =
     bad g.C.Cost.link c.args.counts c.args.names.now c.args.colours.now c.args.ends.now c.args.costs.now c.args.from c.args.to c.args.cost
-    c.exceed.result c.exceed.ensures c.if-exceed.false (omega arith) (omega arith) (c.is-link.ensures.0 c.if-not-is-link.false)
+    c.exceed.result c.exceed.ensures c.if-exceed.false (omega arith) (omega arith) (c.is_link.ensures.0 c.if-not-is_link.false)
     c.from-relays.result c.from-relays.ensures
     (inl (inr (unknown_of g.C.Cost.link c.args.counts c.args.names.now c.args.colours.now c.args.ends.now c.args.costs.now c.args.from c.args.to c.args.cost
-    c.exceed.result c.exceed.ensures c.if-exceed.false (omega arith) (omega arith) (c.is-link.ensures.0 c.if-not-is-link.false)
+    c.exceed.result c.exceed.ensures c.if-exceed.false (omega arith) (omega arith) (c.is_link.ensures.0 c.if-not-is_link.false)
     c.from-relays.result c.from-relays.ensures
-    c.args.to c.in-default-find.ensures)))
+    c.args.to c.in_default-find.ensures)))
 
 pub returns-then-from-to : goal.returns-then-from-to
 returns-then-from-to g c =
     bad g.C.Cost.link c.args.counts c.args.names.now c.args.colours.now c.args.ends.now c.args.costs.now c.args.from c.args.to c.args.cost
-    c.exceed.result c.exceed.ensures c.if-exceed.false (omega arith) (omega arith) (c.is-link.ensures.0 c.if-not-is-link.false)
+    c.exceed.result c.exceed.ensures c.if-exceed.false (omega arith) (omega arith) (c.is_link.ensures.0 c.if-not-is_link.false)
     c.from-relays.result c.from-relays.ensures
     (inr (elim c.then-from-to.branch [
       | then-from-to-via-then-from-to w ↦ inl w.if-from-to.true
       | then-from-to-via-else-from-to+then-joins w ↦ inr (linked g.C.Cost.link c.args.counts c.args.names.now c.args.colours.now c.args.ends.now c.args.costs.now c.args.from c.args.to c.args.cost
-          c.exceed.result c.exceed.ensures c.if-exceed.false (omega arith) (omega arith) (c.is-link.ensures.0 c.if-not-is-link.false)
+          c.exceed.result c.exceed.ensures c.if-exceed.false (omega arith) (omega arith) (c.is_link.ensures.0 c.if-not-is_link.false)
           c.from-relays.result c.from-relays.ensures
           c.in-Some.one c.in-Some-find.other c.in-Some.ensures c.in-Some-find.ensures c.from-links.result c.from-links.ensures (w.joins.ensures.0 w.if-joins.true))
     ]))
@@ -97,7 +97,7 @@ returns-then-from-to g c =
 pub returns-then-links-ge1024 : goal.returns-then-links-ge1024
 returns-then-links-ge1024 g c =
     full g.C.Cost.link c.args.counts c.args.names.now c.args.colours.now c.args.ends.now c.args.costs.now c.args.from c.args.to c.args.cost
-    c.exceed.result c.exceed.ensures c.if-exceed.false (omega arith) (omega arith) (c.is-link.ensures.0 c.if-not-is-link.false)
+    c.exceed.result c.exceed.ensures c.if-exceed.false (omega arith) (omega arith) (c.is_link.ensures.0 c.if-not-is_link.false)
     c.from-relays.result c.from-relays.ensures
     c.in-Some.one c.in-Some-find.other c.in-Some.ensures c.in-Some-find.ensures c.from-links.result c.from-links.ensures c.if-from-to.false (decided_not _ _ c.joins.ensures c.if-joins.false)
     (elim c.then-links-ge1024.either [ inl h ↦ inl (omega arith) | inr (inl h) ↦ inr (inl (omega arith)) | inr (inr h) ↦ inr (inr (omega arith)) ])
@@ -105,13 +105,13 @@ returns-then-links-ge1024 g c =
 pub returns : goal.returns
 returns g c = (
   passed g.C.Cost.link c.args.counts c.args.names.now c.args.colours.now c.args.ends.now c.args.costs.now c.args.from c.args.to c.args.cost
-      c.exceed.result c.exceed.ensures c.if-exceed.false (omega arith) (omega arith) (c.is-link.ensures.0 c.if-not-is-link.false)
+      c.exceed.result c.exceed.ensures c.if-exceed.false (omega arith) (omega arith) (c.is_link.ensures.0 c.if-not-is_link.false)
       c.from-relays.result c.from-relays.ensures
       c.in-Some.one c.in-Some-find.other c.in-Some.ensures c.in-Some-find.ensures c.from-links.result c.from-links.ensures c.if-from-to.false (decided_not _ _ c.joins.ensures c.if-joins.false) (λ h. omega arith),
   called_of g.C.Cost.link c.args.counts c.args.names.now c.args.colours.now c.args.ends.now c.args.costs.now c.args.from c.args.to c.args.cost
-      c.exceed.result c.exceed.ensures c.if-exceed.false (omega arith) (omega arith) (c.is-link.ensures.0 c.if-not-is-link.false)
+      c.exceed.result c.exceed.ensures c.if-exceed.false (omega arith) (omega arith) (c.is_link.ensures.0 c.if-not-is_link.false)
       c.from-relays.result c.from-relays.ensures c.args.from c.in-Some.one c.in-Some.ensures,
   called_of g.C.Cost.link c.args.counts c.args.names.now c.args.colours.now c.args.ends.now c.args.costs.now c.args.from c.args.to c.args.cost
-      c.exceed.result c.exceed.ensures c.if-exceed.false (omega arith) (omega arith) (c.is-link.ensures.0 c.if-not-is-link.false)
+      c.exceed.result c.exceed.ensures c.if-exceed.false (omega arith) (omega arith) (c.is_link.ensures.0 c.if-not-is_link.false)
       c.from-relays.result c.from-relays.ensures c.args.to c.in-Some-find.other c.in-Some-find.ensures,
 )

@@ -42,22 +42,22 @@ module _ {C : Type 0} (n : Counts) (names colours : List ℕ) (ends : List Ends)
   passed t h =
       pass_both _ _ (passes _ _ no_short) (pass_both _ _ (passes _ _ within) (pass_both _ _ (passes _ _ (free t)) (passes _ _ h)))
 
-pub returns-then-is-some : goal.returns-then-is-some
-returns-then-is-some g c =
+pub returns-then-is_some : goal.returns-then-is_some
+returns-then-is_some g c =
     borne c.args.counts c.args.names.now c.args.colours.now c.args.ends.now c.args.costs.now c.args.name c.args.colour
     c.exceed.result c.exceed.ensures c.if-exceed.false (omega arith) (omega arith)
-    c.from-relays.result c.from-relays.ensures c.find.result c.find.ensures (sym c.is-some.ensures ∙ c.if-is-some.true)
+    c.from-relays.result c.from-relays.ensures c.find.result c.find.ensures (sym c.is_some.ensures ∙ c.if-is_some.true)
 
 pub returns-then-relays-ge256 : goal.returns-then-relays-ge256
 returns-then-relays-ge256 g c =
     full c.args.counts c.args.names.now c.args.colours.now c.args.ends.now c.args.costs.now c.args.name c.args.colour
     c.exceed.result c.exceed.ensures c.if-exceed.false (omega arith) (omega arith)
-    c.from-relays.result c.from-relays.ensures c.find.result c.find.ensures (sym c.is-some.ensures ∙ c.if-is-some.false)
+    c.from-relays.result c.from-relays.ensures c.find.result c.find.ensures (sym c.is_some.ensures ∙ c.if-is_some.false)
     (elim c.then-relays-ge256.either [ inl h ↦ inl (omega arith) | inr (inl h) ↦ inr (inl (omega arith)) | inr (inr h) ↦ inr (inr (omega arith)) ])
 
 pub returns : goal.returns
 returns g c =
     passed c.args.counts c.args.names.now c.args.colours.now c.args.ends.now c.args.costs.now c.args.name c.args.colour
     c.exceed.result c.exceed.ensures c.if-exceed.false (omega arith) (omega arith)
-    c.from-relays.result c.from-relays.ensures c.find.result c.find.ensures (sym c.is-some.ensures ∙ c.if-is-some.false)
+    c.from-relays.result c.from-relays.ensures c.find.result c.find.ensures (sym c.is_some.ensures ∙ c.if-is_some.false)
     (λ h. omega arith)

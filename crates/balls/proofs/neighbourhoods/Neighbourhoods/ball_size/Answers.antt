@@ -15,7 +15,7 @@ loop-relays-preserved g c =
       omega arith,
       missing_more rs cs k c.loop-relays.missing.marks c.meet.new.missing.marks c.loop-relays.place inv.1 more c.meet.ensures,
       below_more (λ a. Covers (colour_at cs) k rs a → ⊥) c.loop-relays.place inv.2
-          (some_missing rs cs k c.loop-relays.missing.marks c.loop-relays.place inv.1 c.is-empty.result c.if-is-empty.false c.is-empty.ensures),
+          (some_missing rs cs k c.loop-relays.missing.marks c.loop-relays.place inv.1 c.is_empty.result c.if-is_empty.false c.is_empty.ensures),
     )
 
 pub returns : goal.returns
@@ -26,7 +26,7 @@ returns g c =
     let inv = c.loop-relays.invariant in
     let here : BallSize (colour_at cs) k c.entries-relays.result.now c.loop-relays.place = record {
       within = inv.0;
-      covers = none_missing c.entries-relays.result.now cs k c.loop-relays.missing.marks c.loop-relays.place inv.1 (c.is-empty.ensures.0 c.if-is-empty.true);
+      covers = none_missing c.entries-relays.result.now cs k c.loop-relays.missing.marks c.loop-relays.place inv.1 (c.is_empty.ensures.0 c.if-is_empty.true);
       least = inv.2;
     } in
     let size : BallSize (colour_at cs) k zs c.loop-relays.place = subst (λ (ys : List ℕ). BallSize (colour_at cs) k ys c.loop-relays.place) c.entries-relays.ensures here in
@@ -39,6 +39,6 @@ returns-then-place-relays g c =
     let zs = take (length cs) c.args.order.now in
     let k = c.args.self.now.palette in
     let here = subst (λ (a : ℕ). Covers (colour_at cs) k rs a → ⊥) c.if-place-relays.true
-    (some_missing rs cs k c.loop-relays.missing.marks c.loop-relays.place c.loop-relays.invariant.1 c.is-empty.result c.if-is-empty.false c.is-empty.ensures) in
+    (some_missing rs cs k c.loop-relays.missing.marks c.loop-relays.place c.loop-relays.invariant.1 c.is_empty.result c.if-is_empty.false c.is_empty.ensures) in
     let never = subst (λ (ys : List ℕ). Covers (colour_at cs) k ys (length ys) → ⊥) c.entries-relays.ensures here in
     record { size = never; ball = λ p D u shows o. sizing g.C.Cost.laws k zs cs p D u shows o None never }

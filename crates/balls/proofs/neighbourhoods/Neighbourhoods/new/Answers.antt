@@ -6,15 +6,15 @@ use Rattle.order.proofs.Theory.{balls}
 use Rattle.balls.proofs.Squares.{long_enough, cut, shown, measured}
 use Rattle.balls.proofs.neighbourhoods.Neighbourhoods.new.Goals as goal
 
-pub slice-bounds-result-end : goal.slice-bounds-result-end
-slice-bounds-result-end g c =
-    let long = long_enough c.counts-counts.result c.args.colours.now c.args.distances.now c.in-ok-check-lists.ensures in
+pub slice_bounds-result-end : goal.slice_bounds-result-end
+slice_bounds-result-end g c =
+    let long = long_enough c.counts-counts.result c.args.colours.now c.args.distances.now c.in_ok-check_lists.ensures in
     let fits : c.from-relays.result ≤ length c.args.colours.now = omega (arith, long.0, c.from-relays.ensures) in
     search rules
 
-pub slice-bounds-result-end-2 : goal.slice-bounds-result-end-2
-slice-bounds-result-end-2 g c =
-    let long = long_enough c.counts-counts.result c.args.colours.now c.args.distances.now c.in-ok-check-lists.ensures in
+pub slice_bounds-result-end-2 : goal.slice_bounds-result-end-2
+slice_bounds-result-end-2 g c =
+    let long = long_enough c.counts-counts.result c.args.colours.now c.args.distances.now c.in_ok-check_lists.ensures in
     let all = ap (λ (n : ℕ). n * n) c.from-relays.ensures in
     let fits : c.from-relays.result * c.from-relays.result ≤ length c.args.distances.now = omega (arith, long.1, all) in
     search rules
@@ -26,7 +26,7 @@ returns g c =
     let relays = c.from-relays.ensures ∙ ap (λ (x : Counts). x.relays) c.counts-counts.ensures in
     record {
       outcome = (
-        subst (λ (m : Counts). Accepted (NearRefused m c.args.colours.now c.args.distances.now)) c.counts-counts.ensures c.in-ok-check-lists.ensures,
+        subst (λ (m : Counts). Accepted (NearRefused m c.args.colours.now c.args.distances.now)) c.counts-counts.ensures c.in_ok-check_lists.ensures,
         cut n c.args.colours.now c.args.distances.now c.counts-counts.result.colours c.from-relays.result palette relays,
       );
       plan = λ names ends costs p h. (

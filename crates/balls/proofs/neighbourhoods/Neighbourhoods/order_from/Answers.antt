@@ -6,17 +6,17 @@ use Rattle.order.specs.Seen.{Order}
 use Rattle.balls.proofs.Squares.{no_row, cut_long, order_told, no_relay, accepted}
 use Rattle.balls.proofs.neighbourhoods.Neighbourhoods.order_from.Goals as goal
 
-pub returns-in-default : goal.returns-in-default
-returns-in-default g c =
+pub returns-in_default : goal.returns-in_default
+returns-in_default g c =
     let n = length c.args.self.now.colours.now in
     let cells = c.args.self.now.distances.now in (
       no_relay n c.args.from c.args.order.now c.if-order-relays.false
-          (no_row n c.args.from c.new.result.side c.from.result cells c.new.ensures c.from.ensures c.args.self.now.square c.in-default.ensures),
+          (no_row n c.args.from c.new.result.side c.from.result cells c.new.ensures c.from.ensures c.args.self.now.square c.in_default.ensures),
       refl,
     )
 
-pub sort-relays-requires : goal.sort-relays-requires
-sort-relays-requires g c =
+pub sort_relays-requires : goal.sort_relays-requires
+sort_relays-requires g c =
     let n = length c.args.self.now.colours.now in
     let cells = c.args.self.now.distances.now in
     let told = c.in-Some.ensures in
@@ -29,13 +29,13 @@ pub returns : goal.returns
 returns g c =
     let n = length c.args.self.now.colours.now in
     let cells = c.args.self.now.distances.now in
-    let zs = c.sort-relays.new.order in
+    let zs = c.sort_relays.new.order in
     let told = c.in-Some.ensures in
-    let long : length c.sort-relays.new.order ≡ length c.args.self.now.colours.now = search (rules, places) in (
+    let long : length c.sort_relays.new.order ≡ length c.args.self.now.colours.now = search (rules, places) in (
       accepted n c.args.from c.args.order.now c.if-order-relays.false (omega (arith, told.0.0, c.new.ensures, c.from.ensures)),
       (λ p count.
           subst (λ (ys : List ℕ). Order g.C.Cost.less (in_square g.C.Cost.none n cells) p c.args.from ys) (sym (take_at zs _ n long))
           (order_told n c.args.from c.new.result.side c.from.result cells c.new.ensures c.from.ensures g.C.Cost.none g.C.Cost.less
-          c.in-Some.row.now zs told.0 told.1 long c.sort-relays.ensures p count)),
+          c.in-Some.row.now zs told.0 told.1 long c.sort_relays.ensures p count)),
       search (rules, overwrites),
     )

@@ -10,8 +10,8 @@ fits_of g c = link_fits _ _ _ _ _ _ _ _ _ c.in-Ok.ensures.0
 pub bounds-ends-links : goal.bounds-ends-links
 bounds-ends-links g c = let h = fits_of g c in search rules
 
-pub offset-bounds-costs-links : goal.offset-bounds-costs-links
-offset-bounds-costs-links g c =
+pub offset_bounds-costs-links : goal.offset_bounds-costs-links
+offset_bounds-costs-links g c =
     let h = fits_of g c in
     let l : c.from-links.result < length c.args.costs.now = omega arith in
     search rules
@@ -19,12 +19,12 @@ offset-bounds-costs-links g c =
 pub bounds-costs-links : goal.bounds-costs-links
 bounds-costs-links g c = let h = fits_of g c in search rules
 
-pub invariant-of-counts : goal.invariant-of-counts
-invariant-of-counts g c =
+pub invariant_of-counts : goal.invariant_of-counts
+invariant_of-counts g c =
     let h : LinkFits g.C.Cost.link c.args.self.counts c.args.names.now c.args.colours.now c.args.ends.now c.args.costs.now c.args.from c.args.to c.args.cost =
     link_fits _ _ _ _ _ _ _ _ _ c.in-Ok.ensures.0 in
     let few : c.args.self.counts.links + 1 ≤ 1024 = omega (arith, h.few) in
-    (c.args.self.counts.coloured, (c.args.self.counts.palette, (c.args.self.counts.few, (few, tt))))
+    record { coloured = c.args.self.counts.coloured; palette = c.args.self.counts.palette; few = c.args.self.counts.few; sparse = few }
 
 pub returns : goal.returns
 returns g c =
