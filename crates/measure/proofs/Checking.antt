@@ -2,11 +2,10 @@
 use Rattle.std.proofs.Common.{◌≡◌, ℕ, ◌*◌, ◌<◌, ◌≤◌, ◌⊎◌, List, length, get_or, take, sym, refl, ap, ◌∙◌, subst, inl, inr, arith}
 use Rattle.std.proofs.lemmas.List.{length-take-le, get_or-take}
 use Rattle.std.proofs.lemmas.Bool.{cases_lt}
-use Rattle.plan.specs.declared.refusal.Refusal.{Refusal}
 use Rattle.plan.specs.declared.refusal.Refusal.TheVariants.{EntryBroken, ListTooShort}
 use Rattle.plan.specs.declared.ends.Ends.{Ends}
 use Rattle.plan.specs.declared.counts.Counts.{Counts}
-use Rattle.plan.specs.Plan.{Plan, Link, held, link, link_of}
+use Rattle.plan.specs.Plan.{Link, held, link}
 use Rattle.plan.specs.Walk.{nowhere}
 use Rattle.plan.specs.Reach.{Inside, Loose, Within}
 use Rattle.plan.specs.Checks.{Accepted, Short, Dangling}

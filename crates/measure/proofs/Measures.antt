@@ -1,9 +1,9 @@
 -- What the two squares say of the plan that the lists hold.
-use Rattle.std.proofs.Common.{◌≡◌, ℕ, ◌+◌, ◌*◌, ◌<◌, ◌≤◌, List, length, get_or, take, sym, refl, ap, ◌∙◌, subst, ap₂, arith}
+use Rattle.std.proofs.Common.{◌≡◌, ℕ, ◌+◌, ◌*◌, ◌<◌, List, length, get_or, take, sym, refl, subst, ap₂, arith}
 use Rattle.kind.specs.Laws.{Laws}
 use Rattle.plan.specs.declared.ends.Ends.{Ends}
 use Rattle.plan.specs.declared.counts.Counts.{Counts}
-use Rattle.plan.specs.Plan.{Plan, held, paired, link_of}
+use Rattle.plan.specs.Plan.{held, paired, link_of}
 use Rattle.plan.specs.Sound.{Sound}
 use Rattle.plan.specs.Checks.{Accepted, Closable}
 use Rattle.plan.proofs.Held.{Enough, relays_count}

@@ -1,5 +1,5 @@
 -- Offers that are taken where they are less than what is known.
-use Rattle.std.proofs.Common.{◌≡◌, ℕ, ◌+◌, ◌<◌, ◌≤◌, Bool, true, false, ◌≢◌, ◌⊎◌, List, length, get_or, set, Some, None, Decides, Option, Ordering, Less, Equal, Greater, sym, refl, ap, ◌∙◌, subst, inl, inr, arith}
+use Rattle.std.proofs.Common.{◌≡◌, ℕ, ◌+◌, ◌<◌, ◌≤◌, Bool, true, ◌⊎◌, List, length, get_or, set, Some, None, Decides, Option, Ordering, Less, Equal, Greater, sym, refl, ap, ◌∙◌, subst, inl, inr, arith}
 use Rattle.std.specs.Ordering.{is_lt, is_eq}
 use Rattle.std.proofs.lemmas.List.{get_or-set_same, get_or-set_other, length-set}
 use Rattle.std.proofs.lemmas.Bool.{cases_eq, cases_lt, false≢true}
@@ -8,7 +8,7 @@ use Rattle.kind.proofs.Sums.{le_of_eq, le_of_less, less-le}
 use Rattle.plan.specs.declared.ends.Ends.{Ends}
 use Rattle.plan.specs.Walk.{Pair, nowhere}
 use Rattle.measure.specs.declared.spread.Reached.{Reached}
-use Rattle.measure.specs.Settling.{near_of, Covers, Improves, Offers, Relaxed, Open, NoneLeft, Nearest}
+use Rattle.measure.specs.Settling.{near_of, Covers, Improves, Offers, Relaxed, Open}
 use Rattle.measure.specs.Incidence.{Skips}
 use Rattle.measure.specs.Best.{cost_of_best, BestOf}
 use Rattle.measure.proofs.Known.{near_set, near_within}

@@ -1,11 +1,11 @@
 -- Settling the nearest relay, over and over, finds the distances.
-use Rattle.std.proofs.Common.{◌≡◌, ℕ, zero, suc, ◌+◌, ◌<◌, ◌≤◌, Bool, true, false, cond, not, ◌≢◌, ◌⊎◌, List, [], ◌∷◌, ◌++◌, map, length, get_or, set, replicate, Some, None, count_by, Option, sym, refl, ap, ◌∙◌, subst, inl, inr, arith, length-append}
-use Rattle.std.specs.List.{ContainsAt, AllByRecursion}
-use Rattle.std.proofs.lemmas.List.{get_or-set_same, get_or-set_other, length-set, length-map}
+use Rattle.std.proofs.Common.{◌≡◌, ℕ, zero, suc, ◌+◌, ◌<◌, ◌≤◌, Bool, true, false, cond, not, ◌⊎◌, List, [], ◌∷◌, ◌++◌, map, length, get_or, set, replicate, Some, None, count_by, Option, sym, refl, ap, ◌∙◌, subst, inl, inr, arith, length-append}
+use Rattle.std.specs.List.{ContainsAt}
+use Rattle.std.proofs.lemmas.List.{get_or-set_same, get_or-set_other, length-map}
 use Rattle.std.proofs.lemmas.List.Sums.{sum_by-set, count_by-le-length}
-use Rattle.std.proofs.lemmas.Bool.{cases_eq, cases_Bool, both_ways, false≢true, true≢false}
+use Rattle.std.proofs.lemmas.Bool.{cases_eq, cases_Bool, both_ways, true≢false}
 use Rattle.kind.specs.Laws.{Laws, AtMost, SumOf}
-use Rattle.kind.proofs.Sums.{le_refl, le_trans, le-plus_right, less-plus-link, le-less, less-le, neutral_right, plus-le_right, sum_link, le_of_eq}
+use Rattle.kind.proofs.Sums.{le_refl, le_trans, le-plus_right, neutral_right, plus-le_right, sum_link, le_of_eq}
 use Rattle.plan.specs.declared.ends.Ends.{Ends}
 use Rattle.plan.specs.Plan.{Plan, Link, link_of, paired}
 use Rattle.plan.specs.Plan as plan

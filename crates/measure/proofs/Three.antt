@@ -1,16 +1,15 @@
 -- The distance and the next relay of the example.
-use Rattle.std.proofs.Common.{◌≡◌, ℕ, zero, suc, ◌<◌, ◌≤◌, ◌⊎◌, List, [], ◌∷◌, length, get_or, sym, refl, ap, ◌∙◌, subst, inl, inr, arith}
-use Rattle.std.specs.List.{ContainsAt, AllByRecursion}
+use Rattle.std.proofs.Common.{◌≡◌, ℕ, zero, suc, ◌<◌, ◌≤◌, ◌⊎◌, [], ◌∷◌, refl, inl, inr, arith}
+use Rattle.std.specs.List.{AllByRecursion}
 use Rattle.std.proofs.ByRecursion.{all-has, has_get_or}
-use Rattle.std.proofs.lemmas.Bool.{cases_lt}
 use Rattle.kind.specs.declared.paid.Paid.{Paid}
 use Rattle.kind.specs.Kinds.{free, paid, both_paid, Cheaper, PaidLink}
 use Rattle.kind.specs.Kept.{paid_laws}
 use Rattle.kind.specs.Laws.{AtMost}
-use Rattle.plan.specs.Plan.{Plan, Link, link}
+use Rattle.plan.specs.Plan.{Link, link}
 use Rattle.plan.specs.Walk.{Linked, Walk, cost_of}
 use Rattle.plan.specs.Sound.{Sound, TwoRelays}
-use Rattle.measure.specs.Distance.{Distance, FirstStep, Next}
+use Rattle.measure.specs.Distance.{Distance, FirstStep}
 use Rattle.measure.specs.Example.{three, FromFirstToLast}
 use Rattle.measure.proofs.Metric.{metric}
 

@@ -1,5 +1,5 @@
 -- Distances and next relays.
-use Rattle.std.specs.Prelude.{◌≡◌, ℕ, ◌<◌, ◌≤◌, ◌⊎◌, List, [], ◌∷◌, length, ◌≢◌}
+use Rattle.std.specs.Prelude.{◌≡◌, ℕ, ◌<◌, ◌≤◌, ◌⊎◌, List, ◌∷◌, length, ◌≢◌}
 use Rattle.kind.specs.Laws.{AtMost}
 use Rattle.plan.specs.Plan.{Plan}
 use Rattle.plan.specs.Walk.{Walk, Hop, Chain, cost_of}

@@ -1,5 +1,5 @@
 -- A plan in which the cheapest walk takes more links than the shortest.
-use Rattle.std.specs.Prelude.{ℕ, List, [], ◌∷◌}
+use Rattle.std.specs.Prelude.{ℕ, [], ◌∷◌}
 use Rattle.kind.specs.declared.paid.Paid.{Paid}
 use Rattle.kind.specs.Kinds.{free, paid, both_paid, Cheaper}
 use Rattle.plan.specs.Plan.{Plan, relay, link}

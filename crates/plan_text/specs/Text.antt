@@ -1,5 +1,5 @@
 -- The text of a plan: three blocks, each a heading and then lines of values.
-use Rattle.std.specs.Prelude.{◌≡◌, ℕ, List, [], ◌∷◌, ◌++◌, length, codes, ◌≢◌}
+use Rattle.std.specs.Prelude.{ℕ, List, [], ◌∷◌, ◌++◌, length, codes, ◌≢◌}
 use Rattle.std.specs.List.{flat_map}
 use Rattle.plan.specs.Plan.{Plan, Relay, Link, name_of}
 use Rattle.plan_text.specs.Rows.{row}

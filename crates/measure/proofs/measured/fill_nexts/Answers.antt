@@ -1,4 +1,4 @@
-use Rattle.std.proofs.Common.{◌≡◌, ◌+◌, ◌*◌, ◌<◌, ◌≤◌, length, arith, rules}
+use Rattle.std.proofs.Common.{◌≡◌, ◌+◌, ◌*◌, ◌≤◌, length, arith, rules}
 use Rattle.std.proofs.lemmas.List.{places}
 use Rattle.measure.specs.Settling.{Toward}
 use Rattle.measure.proofs.Cells.{row_end, rows_more, behind_more}

@@ -8,7 +8,6 @@ use Rattle.plan.specs.Walk.{SomePair}
 use Rattle.plan.specs.Plan.{held}
 use Rattle.plan.proofs.Held.{Enough, enough, searched, joined, only_called}
 use Rattle.plan.proofs.Order.{passes, pass_both, decided_not}
-use Rattle.plan.proofs.draft.check_link.Given as given
 use Rattle.plan.proofs.draft.check_link.Goals as goal
 use Rattle.plan.proofs.draft.check_link.Goals.{then-from-to-via-then-from-to, then-from-to-via-else-from-to+then-joins}
 

@@ -1,4 +1,4 @@
-use Rattle.std.proofs.Common.{◌≡◌, ◌<◌, length, sym, refl, ◌∙◌, subst, arith, length-set}
+use Rattle.std.proofs.Common.{◌<◌, length, refl, ◌∙◌, arith, length-set}
 use Rattle.balls.proofs.Counting.{marks_none, marks_more, marked_more, not_yet}
 use Rattle.balls.proofs.missing.Missing.all.Goals as goal
 

@@ -1,4 +1,4 @@
-use Rattle.std.proofs.Common.{◌≡◌, arith}
+use Rattle.std.proofs.Common.{arith}
 use Rattle.balls.proofs.Counting.{marked_less}
 use Rattle.balls.proofs.missing.Missing.remove.Goals as goal
 

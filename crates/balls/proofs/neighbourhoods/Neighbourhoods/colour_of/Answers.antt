@@ -1,4 +1,3 @@
-use Rattle.std.proofs.Common.{sym}
 use Rattle.balls.proofs.Nearby.{past_end}
 use Rattle.balls.proofs.neighbourhoods.Neighbourhoods.colour_of.Goals as goal
 

@@ -1,7 +1,7 @@
-use Rattle.std.proofs.Common.{◌≡◌, ℕ, ◌*◌, ◌≤◌, length, ap, ◌∙◌, subst, arith, rules}
+use Rattle.std.proofs.Common.{ℕ, ◌*◌, ◌≤◌, length, ap, ◌∙◌, subst, arith, rules}
 use Rattle.plan.specs.declared.counts.Counts.{Counts}
 use Rattle.plan.specs.Checks.{Accepted}
-use Rattle.balls.specs.Told.{NearRefused, Entries}
+use Rattle.balls.specs.Told.{NearRefused}
 use Rattle.order.proofs.Theory.{balls}
 use Rattle.balls.proofs.Squares.{long_enough, cut, shown, measured}
 use Rattle.balls.proofs.neighbourhoods.Neighbourhoods.new.Goals as goal
