@@ -36,12 +36,12 @@ marks_none zero c h = false≢true h
 marks_none (suc n) zero h = false≢true h
 marks_none (suc n) (suc c) h = marks_none n c h
 
-module _ (ms : List Bool) (k : ℕ) (l : k < length ms) (up_to_lem : (c : ℕ) → IsMarked ms c ↔ ((1 ≤ c) × (c < k))) (low : 1 ≤ k) where
+module _ (ms : List Bool) (k : ℕ) (l : k < length ms) (up_to : (c : ℕ) → IsMarked ms c ↔ ((1 ≤ c) × (c < k))) (low : 1 ≤ k) where
   pub not_yet : get_or ms k false ≡ false
   not_yet = by (cases_Bool (get_or ms k false))
     where
       by : (get_or ms k false ≡ true) ⊎ (get_or ms k false ≡ false) → get_or ms k false ≡ false
-      by (inl h) = absurd (omega (arith, ((up_to_lem k).0 h).1))
+      by (inl h) = absurd (omega (arith, ((up_to k).0 h).1))
       by (inr h) = h
 
   pub marks_more : (c : ℕ) → IsMarked (set ms k true) c ↔ ((1 ≤ c) × (c < k + 1))
@@ -54,6 +54,6 @@ module _ (ms : List Bool) (k : ℕ) (l : k < length ms) (up_to_lem : (c : ℕ) �
       )
       by (inr ne) =
           let same = get_or-set_other ms k c true false ne in (
-            (λ h. let b = (up_to_lem c).0 (sym same ∙ h) in (b.0, omega (arith, b.1))),
-            λ h. same ∙ (up_to_lem c).1 (h.0, omega (arith, h.1, ne)),
+            (λ h. let b = (up_to c).0 (sym same ∙ h) in (b.0, omega (arith, b.1))),
+            λ h. same ∙ (up_to c).1 (h.0, omega (arith, h.1, ne)),
           )

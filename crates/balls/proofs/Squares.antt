@@ -28,10 +28,10 @@ module _ {C : Type 0} (none : C) (less : C → C → Type 0) (n u : ℕ) (cells 
   -- relays that are sorted by the row are in the order that u sees
   seen_from : (zs : List ℕ) → length zs ≡ n → Sorted less none (row_of n cells u) (length (row_of n cells u)) zs → (p : Plan C) → length p.relays ≡ n
       → Order less (in_square none n cells) p u zs
-  seen_from zs long by_Row p count = record {
+  seen_from zs long by_row p count = record {
     count = long ∙ sym count;
     relays = All-from_get_or (λ z. z < length p.relays) zs 0 (λ i l. omega (arith, count, small i l));
-    sorted = λ i j l m. seen (get_or zs i 0) (get_or zs j 0) (row_each _ (small i (omega arith))) (row_each _ (small j m)) (by_Row.sorted i j l (omega (arith, long, row_long n u cells has)));
+    sorted = λ i j l m. seen (get_or zs i 0) (get_or zs j 0) (row_each _ (small i (omega arith))) (row_each _ (small j m)) (by_row.sorted i j l (omega (arith, long, row_long n u cells has)));
   }
     where
       seen : (x y : ℕ) → in_square none n cells u x ≡ get_or (row_of n cells u) x none → in_square none n cells u y ≡ get_or (row_of n cells u) y none → RowBefore less none (row_of n cells u) x y → Before less (in_square none n cells) u x y
@@ -39,7 +39,7 @@ module _ {C : Type 0} (none : C) (less : C → C → Type 0) (n u : ℕ) (cells 
       seen x y e f (inr k) = inr (e ∙ k.0 ∙ sym f, k.1)
 
       small : (i : ℕ) → i < length zs → get_or zs i 0 < n
-      small i l = omega (arith, row_long n u cells has, by_Row.relays i (omega (arith, long, row_long n u cells has)))
+      small i l = omega (arith, row_long n u cells has, by_row.relays i (omega (arith, long, row_long n u cells has)))
 
 -- the row of u as the code asks for it, in a square of side n
 module _ {C : Type 0} (n u side x : ℕ) (cells : List C) (is_side : side ≡ n) (is_u : x ≡ u) where
@@ -58,10 +58,10 @@ module _ {C : Type 0} (n u side x : ℕ) (cells : List C) (is_side : side ≡ n)
 
   pub order_told : (none : C) (less : C → C → Type 0) (row : List C) (zs : List ℕ) → HasRow side cells x → row ≡ row_of side cells x → length zs ≡ n
       → Sorted less none row (length row) zs → (p : Plan C) → length p.relays ≡ n → Order less (in_square none n cells) p u zs
-  order_told none less row zs has is long by_Row p count =
+  order_told none less row zs has is long by_row p count =
       subst (λ (m : ℕ). Order less (in_square none m cells) p u zs) is_side
       (subst (λ (v : ℕ). Order less (in_square none side cells) p v zs) is_u
-      (seen_from none less side x cells has zs (long ∙ sym is_side) (subst (λ (r : List C). Sorted less none r (length r) zs) is by_Row) p (count ∙ sym is_side)))
+      (seen_from none less side x cells has zs (long ∙ sym is_side) (subst (λ (r : List C). Sorted less none r (length r) zs) is by_row) p (count ∙ sym is_side)))
 
 -- when an order is refused
 pub no_relay : (n u : ℕ) (zs : List ℕ) → n ≤ length zs → n ≤ u → OrderRefused n u zs UnknownSource
