@@ -13,7 +13,10 @@ use plan::{Counts, Refusal};
 
 // Whether the lists have the entries of a measured plan.
 fn check_lists<C: Cost>(counts: Counts, colours: &[u8], distances: &[C]) -> Result<(), Refusal>
-    ensures { elim result [ Ok u ↦ Accepted (NearRefused counts colours.now distances.now) | Err f ↦ NearRefused counts colours.now distances.now f ] }
+    ensures { elim result [
+      | Ok u ↦ Accepted (NearRefused counts colours.now distances.now)
+      | Err f ↦ NearRefused counts colours.now distances.now f
+    ] }
 {
     let relays = usize::from(counts.relays);
     if colours.len() < relays || !Square::new(relays).fits(distances) {
@@ -39,9 +42,18 @@ impl<'a, C: Cost> Neighbourhoods<'a, C> {
         colours: &'a [u8],
         distances: &'a [C],
     ) -> Result<Neighbourhoods<'a, C>, Refusal>
-        ensures outcome { elim result [ Ok h ↦ Accepted (NearRefused measured.now.counts colours.now distances.now) × Entries measured.now.counts colours.now distances.now h.palette h.colours.now h.distances.now | Err f ↦ NearRefused measured.now.counts colours.now distances.now f ] }
-        ensures plan { IfOk result (λ h. OfPlan C.Cost.none C.Cost.plus C.Cost.less measured.now.counts colours.now distances.now h.palette h.colours.now h.distances.now) }
-        ensures theory { IfOk result (λ h. InTheory C.Cost.none C.Cost.plus C.Cost.less C.Cost.link h.colours.now h.distances.now) }
+        ensures outcome { elim result [
+          | Ok h ↦ Accepted (NearRefused measured.now.counts colours.now distances.now)
+              × Entries measured.now.counts colours.now distances.now h.palette h.colours.now
+              h.distances.now
+          | Err f ↦ NearRefused measured.now.counts colours.now distances.now f
+        ] }
+        ensures plan { IfOk result
+            (λ h. OfPlan C.Cost.none C.Cost.plus C.Cost.less measured.now.counts colours.now
+            distances.now h.palette h.colours.now h.distances.now) }
+        ensures theory { IfOk result
+            (λ h. InTheory C.Cost.none C.Cost.plus C.Cost.less C.Cost.link h.colours.now
+            h.distances.now) }
     {
         let counts = measured.counts();
         check_lists(counts, colours, distances)?;
@@ -75,7 +87,8 @@ impl<'a, C: Cost> Neighbourhoods<'a, C> {
 
     // Takes the relay's colour out of the missing ones.
     fn meet(&self, relay: u16, missing: &mut Missing)
-        ensures { (c : ℕ) → IsMarked missing.new.marks c ↔ (IsMarked missing.old.marks c × (c ≢ colour_at self.now.colours.now relay)) }
+        ensures { (c : ℕ) → IsMarked missing.new.marks c
+            ↔ (IsMarked missing.old.marks c × (c ≢ colour_at self.now.colours.now relay)) }
     {
         missing.remove(self.colour_of(relay));
     }
@@ -95,7 +108,15 @@ impl<'a, C: Cost> Neighbourhoods<'a, C> {
     // Writes the relays in the order that the relay `from` sees: by distance, equal ones by lower number.
     // Refused if the list has too few places, or there is no such relay.
     pub fn order_from(&self, from: u16, order: &mut [u16]) -> Result<(), Refusal>
-        ensures { elim result [ Ok u ↦ Accepted (OrderRefused (length self.now.colours.now) from order.old) × OrderTold C.Cost.none C.Cost.less self.now.colours.now self.now.distances.now from order.new × (drop (length self.now.colours.now) order.new ≡ drop (length self.now.colours.now) order.old) | Err f ↦ OrderRefused (length self.now.colours.now) from order.old f × (order.new ≡ order.old) ] }
+        ensures { elim result [
+          | Ok u ↦ Accepted (OrderRefused (length self.now.colours.now) from order.old)
+              × OrderTold C.Cost.none C.Cost.less self.now.colours.now self.now.distances.now from
+              order.new
+              × (drop (length self.now.colours.now) order.new
+              ≡ drop (length self.now.colours.now) order.old)
+          | Err f ↦ OrderRefused (length self.now.colours.now) from order.old f
+              × (order.new ≡ order.old)
+        ] }
     {
         let relays = self.colours.len();
         if order.len() < relays {
@@ -111,8 +132,10 @@ impl<'a, C: Cost> Neighbourhoods<'a, C> {
     // How many entries of this order it takes to meet all the colours; none if they lack one.
     // In the order that a relay sees, these are its ball. Only as many entries are read as there are relays.
     pub fn ball_size(&self, order: &[u16]) -> Option<usize>
-        ensures size { SizeTold self.now.palette self.now.colours.now (take (length self.now.colours.now) order.now) result }
-        ensures ball { BallTold C.Cost.less self.now.palette self.now.colours.now (take (length self.now.colours.now) order.now) result }
+        ensures size { SizeTold self.now.palette self.now.colours.now
+            (take (length self.now.colours.now) order.now) result }
+        ensures ball { BallTold C.Cost.less self.now.palette self.now.colours.now
+            (take (length self.now.colours.now) order.now) result }
     {
         let relays = self.entries(order);
         let mut missing = Missing::all(self.palette);
@@ -133,8 +156,10 @@ impl<'a, C: Cost> Neighbourhoods<'a, C> {
     // The first relay of this order that has the colour; none if no entry has it.
     // In the order that a relay sees, this is its manager. Only as many entries are read as there are relays.
     pub fn manager(&self, order: &[u16], colour: u8) -> Option<u16>
-        ensures first { FirstTold self.now.colours.now (take (length self.now.colours.now) order.now) colour result }
-        ensures manager { ManagerTold C.Cost.less self.now.palette self.now.colours.now (take (length self.now.colours.now) order.now) colour result }
+        ensures first { FirstTold self.now.colours.now
+            (take (length self.now.colours.now) order.now) colour result }
+        ensures manager { ManagerTold C.Cost.less self.now.palette self.now.colours.now
+            (take (length self.now.colours.now) order.now) colour result }
     {
         let relays = self.entries(order);
         for relay in relays {
@@ -147,8 +172,10 @@ impl<'a, C: Cost> Neighbourhoods<'a, C> {
 
     // The first landmark of this order; none if no entry is one. In the order that a relay sees, this is its home.
     pub fn home(&self, order: &[u16]) -> Option<u16>
-        ensures first { FirstTold self.now.colours.now (take (length self.now.colours.now) order.now) 1 result }
-        ensures home { HomeTold C.Cost.less self.now.palette self.now.colours.now (take (length self.now.colours.now) order.now) result }
+        ensures first { FirstTold self.now.colours.now
+            (take (length self.now.colours.now) order.now) 1 result }
+        ensures home { HomeTold C.Cost.less self.now.palette self.now.colours.now
+            (take (length self.now.colours.now) order.now) result }
     {
         self.manager(order, LANDMARKS)
     }

@@ -26,7 +26,8 @@ impl Tally {
     ) -> io::Result<()>
         ensures compared { self.new.compared ≡ min (self.old.compared + 1) (2 ^ 32 - 1) }
         ensures same { found ≡ published → self.new.differ ≡ self.old.differ }
-        ensures differs { (found ≢ published) → self.new.differ ≡ min (self.old.differ + 1) (2 ^ 32 - 1) }
+        ensures differs { (found ≢ published)
+            → self.new.differ ≡ min (self.old.differ + 1) (2 ^ 32 - 1) }
     {
         self.compared = self.compared.saturating_add(1);
         if found == published {
@@ -40,7 +41,11 @@ impl Tally {
 
 // The hash of the name that has these four bytes, lowest first.
 fn by_name(bytes: [u8; 4]) -> u32
-    ensures { result ≡ fnv_hash (bytes_of (slice_index bytes 0 + slice_index bytes 1 * 256 + slice_index bytes 2 * 65536 + slice_index bytes 3 * 16777216)) }
+    ensures { result
+        ≡ fnv_hash
+        (bytes_of
+        (slice_index bytes 0 + slice_index bytes 1 * 256 + slice_index bytes 2 * 65536
+        + slice_index bytes 3 * 16777216)) }
 {
     fnv_1a(u32::from_le_bytes(bytes))
 }

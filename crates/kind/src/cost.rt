@@ -28,7 +28,11 @@ pub trait Cost: Copy {
         ensures { Decides result (link self) };
 
     fn compare(self, other: Self) -> Ordering
-        ensures { elim result [ Less ↦ less self other | Equal ↦ self ≡ other | Greater ↦ less other self ] };
+        ensures { elim result [
+          | Less ↦ less self other
+          | Equal ↦ self ≡ other
+          | Greater ↦ less other self
+        ] };
 
     fn add(self, other: Self) -> Self
         ensures { result ≡ adds self other };

@@ -53,7 +53,8 @@ impl Cost for Paid {
 }
 
 impl fmt::Display for Paid {
-    ghost output = { λ p. Some (codes "paid " ++ (decimal p.segments ++ (codes " delay " ++ decimal p.delay))) };
+    ghost output = { λ p. Some
+        (codes "paid " ++ (decimal p.segments ++ (codes " delay " ++ decimal p.delay))) };
 
     fn fmt<W: fmt::Write>(&self, f: &mut fmt::Formatter<W>) -> fmt::Result {
         let segments = self.segments;

@@ -15,7 +15,8 @@ fn all_but_one(relays: u16) -> u16
 // The distance of a sound plan is a metric.
 pub fn most_hops<C: Cost>(relays: u16) -> u16
     ensures value { result ≡ relays - 1 }
-    ensures metric { (p : Plan C) → Sound C.Cost.link p → Metric C.Cost.none C.Cost.plus C.Cost.less C.Cost.link p }
+    ensures metric { (p : Plan C) → Sound C.Cost.link p
+        → Metric C.Cost.none C.Cost.plus C.Cost.less C.Cost.link p }
 {
     all_but_one(relays)
 }

@@ -50,7 +50,12 @@ fn check_measuring<C: Cost>(
     distances: &[C],
     nexts: &[u16],
 ) -> Result<(), Refusal>
-    ensures { elim result [ Ok u ↦ Accepted (MeasureRefused counts names.now colours.now ends.now costs.now distances.now nexts.now) | Err f ↦ MeasureRefused counts names.now colours.now ends.now costs.now distances.now nexts.now f ] }
+    ensures { elim result [
+      | Ok u ↦ Accepted
+          (MeasureRefused counts names.now colours.now ends.now costs.now distances.now nexts.now)
+      | Err f ↦ MeasureRefused counts names.now colours.now ends.now costs.now distances.now
+          nexts.now f
+    ] }
 {
     if counts.exceed(names, colours, ends, costs) {
         return Err(Refusal::ListTooShort);
@@ -77,7 +82,8 @@ fn fill_distances<C: Cost>(
     requires firm { Firm ends.now costs.now relays }
     requires incident { Incident ends.now incidence.now }
     requires square { relays * relays ≤ length distances.old }
-    ensures rows { Rows C.Cost.none C.Cost.plus C.Cost.less C.Cost.link ends.now costs.now relays distances.new relays }
+    ensures rows { Rows C.Cost.none C.Cost.plus C.Cost.less C.Cost.link ends.now costs.now relays
+        distances.new relays }
     ensures behind { Behind relays distances.old distances.new }
 {
     for u in 0..relays {
@@ -106,7 +112,8 @@ fn fill_nexts<C: Cost>(
     requires incident { Incident ends.now incidence.now }
     requires square { relays * relays ≤ length distances.now }
     requires room { relays * relays ≤ length nexts.old }
-    ensures rows { NextRows C.Cost.none C.Cost.adds ends.now costs.now relays distances.now nexts.new relays }
+    ensures rows { NextRows C.Cost.none C.Cost.adds ends.now costs.now relays distances.now
+        nexts.new relays }
     ensures behind { Behind relays nexts.old nexts.new }
 {
     for u in 0..relays {
@@ -133,7 +140,18 @@ pub fn measure<C: Cost>(
     distances: &mut [C],
     nexts: &mut [u16],
 ) -> Result<Measured, (Closed, Refusal)>
-    ensures { elim result [ Ok m ↦ Accepted (MeasureRefused closed.counts names.now colours.now ends.now costs.now distances.old nexts.old) × (m.counts ≡ closed.counts) × Measures C.Cost.none C.Cost.plus C.Cost.less C.Cost.link (held closed.counts names.now colours.now ends.now costs.now) closed.counts.relays distances.old distances.new nexts.old nexts.new | Err e ↦ MeasureRefused closed.counts names.now colours.now ends.now costs.now distances.old nexts.old e.1 × (e.0 ≡ closed) × (distances.new ≡ distances.old) × (nexts.new ≡ nexts.old) ] }
+    ensures { elim result [
+      | Ok m ↦ Accepted
+          (MeasureRefused closed.counts names.now colours.now ends.now costs.now distances.old
+          nexts.old)
+          × (m.counts ≡ closed.counts)
+          × Measures C.Cost.none C.Cost.plus C.Cost.less C.Cost.link
+          (held closed.counts names.now colours.now ends.now costs.now) closed.counts.relays
+          distances.old distances.new nexts.old nexts.new
+      | Err e ↦ MeasureRefused closed.counts names.now colours.now ends.now costs.now
+          distances.old nexts.old e.1
+          × (e.0 ≡ closed) × (distances.new ≡ distances.old) × (nexts.new ≡ nexts.old)
+    ] }
 {
     let counts = closed.counts();
     if let Err(refusal) = check_measuring(counts, names, colours, ends, costs, distances, nexts) {

@@ -31,7 +31,8 @@ fn next_toward<C: Cost>(
     requires inside { from < relays }
     requires target { to < relays }
     ensures relay { result < relays }
-    ensures toward { Toward C.Cost.none C.Cost.adds ends.now costs.now relays distances.now from to result }
+    ensures toward { Toward C.Cost.none C.Cost.adds ends.now costs.now relays distances.now from to
+        result }
 {
     if from == to {
         return from;
@@ -65,7 +66,9 @@ pub(crate) fn nexts_from<C: Cost>(
     requires square { relays * relays ≤ length distances.now }
     requires inside { from < relays }
     requires size { length row.old ≡ relays }
-    ensures { (x : ℕ) → x < relays → Toward C.Cost.none C.Cost.adds ends.now costs.now relays distances.now from x (slice_index row.new x) }
+    ensures { (x : ℕ) → x < relays
+        → Toward C.Cost.none C.Cost.adds ends.now costs.now relays distances.now from x
+        (slice_index row.new x) }
 {
     for x in 0..relays {
         row[x] = next_toward(ends, costs, incidence, relays, distances, from, x) as u16;

@@ -18,7 +18,8 @@ struct Reached<C> {
 
 // The other end of a link that has one end at this relay.
 pub(crate) fn across(ends: Ends, at: usize) -> Option<usize>
-    ensures { MatchOption result ((x : ℕ) → Pair ends at x → ⊥) (λ y. Pair ends at y × ((x : ℕ) → Pair ends at x → x ≡ y)) }
+    ensures { MatchOption result ((x : ℕ) → Pair ends at x → ⊥)
+        (λ y. Pair ends at y × ((x : ℕ) → Pair ends at x → x ≡ y)) }
 {
     let (from, to) = (usize::from(ends.from), usize::from(ends.to));
     if from == at {
@@ -51,7 +52,8 @@ fn cost_at<C: Cost>(known: &[bool], row: &[C], x: usize) -> Option<C>
 // Takes the cost for relay x, if it is less than what is known.
 fn offer<C: Cost>(known: &mut [bool], row: &mut [C], x: usize, cost: C)
     requires { (x < length known.old) × (x < length row.old) }
-    ensures { Relaxed C.Cost.less (λ y c. (y ≡ x) × (c ≡ cost)) (near_of known.old row.old) (near_of known.new row.new) }
+    ensures { Relaxed C.Cost.less (λ y c. (y ≡ x) × (c ≡ cost)) (near_of known.old row.old)
+        (near_of known.new row.new) }
 {
     if improves(cost, cost_at(known, row, x)) {
         known[x] = true;
@@ -75,7 +77,9 @@ fn relax<C: Cost>(
     requires sparse { length ends.now ≤ 1024 }
     requires incident { Incident ends.now incidence.now }
     requires relay { at < 256 }
-    ensures { Relaxed C.Cost.less (Offers C.Cost.none C.Cost.adds ends.now costs.now (length ends.now) at cost) (near_of known.old row.old) (near_of known.new row.new) }
+    ensures { Relaxed C.Cost.less
+        (Offers C.Cost.none C.Cost.adds ends.now costs.now (length ends.now) at cost)
+        (near_of known.old row.old) (near_of known.new row.new) }
 {
     let mut k = incidence.first(at);
     while k < ends.len() {
@@ -103,7 +107,8 @@ fn nearest<C: Cost>(
     settled: &[bool],
     relays: usize,
 ) -> Option<Reached<C>>
-    requires { (relays ≤ length known.now) × ((relays ≤ length row.now) × (relays ≤ length settled.now)) }
+    requires { (relays ≤ length known.now)
+        × ((relays ≤ length row.now) × (relays ≤ length settled.now)) }
     ensures { BestOf C.Cost.less (near_of known.now row.now) settled.now relays result }
 {
     let mut best = None;
@@ -135,7 +140,8 @@ pub(crate) fn distances_from<C: Cost>(
     requires incident { Incident ends.now incidence.now }
     requires size { length row.old ≡ relays }
     requires inside { source < relays }
-    ensures { DistancesFrom C.Cost.none C.Cost.plus C.Cost.less C.Cost.link ends.now costs.now relays source row.new }
+    ensures { DistancesFrom C.Cost.none C.Cost.plus C.Cost.less C.Cost.link ends.now costs.now
+        relays source row.new }
 {
     for cost in row.iter_mut() {
         *cost = C::zero();

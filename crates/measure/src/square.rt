@@ -36,7 +36,8 @@ impl Square {
 
     // The cell of the pair, if the pair and the list have one.
     fn place<V>(self, cells: &[V], row: usize, column: usize) -> Option<usize>
-        ensures { MatchOption result (HasCell self.side cells.now row column → ⊥) (λ k. HasCell self.side cells.now row column × (k ≡ cell_of self.side row column)) }
+        ensures { MatchOption result (HasCell self.side cells.now row column → ⊥)
+            (λ k. HasCell self.side cells.now row column × (k ≡ cell_of self.side row column)) }
     {
         if row >= self.side || column >= self.side {
             return None;
@@ -47,7 +48,9 @@ impl Square {
 
     // The value of the pair; none if the pair has no cell.
     pub fn get<V: Copy>(self, cells: &[V], row: usize, column: usize) -> Option<V>
-        ensures { MatchOption result (HasCell self.side cells.now row column → ⊥) (λ v. HasCell self.side cells.now row column × ((d : V) → v ≡ slice_index_or cells.now (cell_of self.side row column) d)) }
+        ensures { MatchOption result (HasCell self.side cells.now row column → ⊥)
+            (λ v. HasCell self.side cells.now row column
+            × ((d : V) → v ≡ slice_index_or cells.now (cell_of self.side row column) d)) }
     {
         let cell = self.place(cells, row, column)?;
         Some(cells[cell])
@@ -55,7 +58,8 @@ impl Square {
 
     // The values of a row; none if there is no such row, or the list lacks part of it.
     pub fn row<'a, V>(self, cells: &'a [V], row: usize) -> Option<&'a [V]>
-        ensures { MatchOption result (HasRow self.side cells.now row → ⊥) (λ part. HasRow self.side cells.now row × (part.now ≡ row_of self.side cells.now row)) }
+        ensures { MatchOption result (HasRow self.side cells.now row → ⊥)
+            (λ part. HasRow self.side cells.now row × (part.now ≡ row_of self.side cells.now row)) }
     {
         if row >= self.side {
             return None;
@@ -72,7 +76,8 @@ impl Square {
     // Gives the pair this value, and says whether it has a cell; if not, nothing changes.
     pub fn set<V: Drop>(self, cells: &mut [V], row: usize, column: usize, value: V) -> bool
         ensures told { Decides result (HasCell self.side cells.old row column) }
-        ensures written { result ≡ true → cells.new ≡ slice_set cells.old (cell_of self.side row column) value }
+        ensures written { result ≡ true
+            → cells.new ≡ slice_set cells.old (cell_of self.side row column) value }
         ensures kept { result ≡ false → cells.new ≡ cells.old }
     {
         match self.place(cells, row, column) {

@@ -19,7 +19,9 @@ fn first_colour() -> u8
 // Answers `LANDMARKS`. Any sound plan with its distances has the theory of specs/Balls.antt.
 pub fn landmark_colour<C: Cost>() -> u8
     ensures value { result ≡ 1 }
-    ensures balls { (p : Plan C) (D : ℕ → ℕ → C) → Sound C.Cost.link p → Distances C.Cost.none C.Cost.plus C.Cost.less p D → Balls C.Cost.none C.Cost.plus C.Cost.less D p }
+    ensures balls { (p : Plan C) (D : ℕ → ℕ → C) → Sound C.Cost.link p
+        → Distances C.Cost.none C.Cost.plus C.Cost.less p D
+        → Balls C.Cost.none C.Cost.plus C.Cost.less D p }
 {
     first_colour()
 }

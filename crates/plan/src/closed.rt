@@ -29,7 +29,8 @@ impl Closed {
 // The lowest colour that is none of these, of the colours 1 to `most`.
 fn lowest_absent(colours: &[u8], most: u8) -> Option<u8>
     requires { most ≤ 16 }
-    ensures { MatchOption result (NoneAbsent colours.now most) (λ c. FirstAbsent colours.now most c) }
+    ensures { MatchOption result (NoneAbsent colours.now most)
+        (λ c. FirstAbsent colours.now most c) }
 {
     for c in 1..=most {
         if !colours.contains(&c) {
@@ -54,7 +55,8 @@ fn is_loose(ends: &[Ends], relays: u16) -> bool
 // A relay that is not marked, and that a link joins to one that is.
 fn crossing(ends: &[Ends], marks: &[bool]) -> Option<u16>
     requires { Within ends.now (length marks.now) }
-    ensures { MatchOption result (NoCrossing ends.now marks.now) (λ v. Crosses ends.now marks.now v) }
+    ensures { MatchOption result (NoCrossing ends.now marks.now)
+        (λ v. Crosses ends.now marks.now v) }
 {
     for e in ends {
         let from = marks[usize::from(e.from)];
@@ -103,7 +105,11 @@ fn check_closing<C: Cost>(
     ends: &[Ends],
     costs: &[C],
 ) -> Result<(), Refusal>
-    ensures { elim result [ Ok u ↦ Accepted (CloseRefused counts names.now colours.now ends.now costs.now) × Closable (held counts names.now colours.now ends.now costs.now) | Err f ↦ CloseRefused counts names.now colours.now ends.now costs.now f ] }
+    ensures { elim result [
+      | Ok u ↦ Accepted (CloseRefused counts names.now colours.now ends.now costs.now)
+          × Closable (held counts names.now colours.now ends.now costs.now)
+      | Err f ↦ CloseRefused counts names.now colours.now ends.now costs.now f
+    ] }
 {
     if counts.exceed(names, colours, ends, costs) {
         return Err(Refusal::ListTooShort);
@@ -132,7 +138,9 @@ impl Draft {
         costs: &[C],
     ) -> Result<Closed, (Draft, Refusal)>
         ensures outcome { CloseStep self (lists names.now colours.now ends.now costs.now) result }
-        ensures plainly { (p : Plan C) → Holds self.counts (lists names.now colours.now ends.now costs.now) p → Sound C.Cost.link p → Closes p result }
+        ensures plainly { (p : Plan C)
+            → Holds self.counts (lists names.now colours.now ends.now costs.now) p
+            → Sound C.Cost.link p → Closes p result }
     {
         if let Err(refusal) = check_closing(self.counts, names, colours, ends, costs) {
             return Err((self, refusal));

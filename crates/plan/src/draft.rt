@@ -66,7 +66,10 @@ fn check_relay<C: Cost>(
     name: u64,
     colour: u64,
 ) -> Result<(), Refusal>
-    ensures { elim result [ Ok u ↦ Accepted (RelayRefused counts names.now colours.now ends.now costs.now name colour) | Err f ↦ RelayRefused counts names.now colours.now ends.now costs.now name colour f ] }
+    ensures { elim result [
+      | Ok u ↦ Accepted (RelayRefused counts names.now colours.now ends.now costs.now name colour)
+      | Err f ↦ RelayRefused counts names.now colours.now ends.now costs.now name colour f
+    ] }
 {
     if counts.exceed(names, colours, ends, costs) {
         return Err(Refusal::ListTooShort);
@@ -95,7 +98,14 @@ fn check_link<C: Cost>(
     to: u64,
     cost: C,
 ) -> Result<Ends, Refusal>
-    ensures { elim result [ Ok e ↦ Accepted (LinkRefused C.Cost.link counts names.now colours.now ends.now costs.now from to cost) × Called (held counts names.now colours.now ends.now costs.now) e.from from × Called (held counts names.now colours.now ends.now costs.now) e.to to | Err f ↦ LinkRefused C.Cost.link counts names.now colours.now ends.now costs.now from to cost f ] }
+    ensures { elim result [
+      | Ok e ↦ Accepted
+          (LinkRefused C.Cost.link counts names.now colours.now ends.now costs.now from to cost)
+          × Called (held counts names.now colours.now ends.now costs.now) e.from from
+          × Called (held counts names.now colours.now ends.now costs.now) e.to to
+      | Err f ↦ LinkRefused C.Cost.link counts names.now colours.now ends.now costs.now from to
+          cost f
+    ] }
 {
     if counts.exceed(names, colours, ends, costs) {
         return Err(Refusal::ListTooShort);
@@ -156,7 +166,8 @@ impl Draft {
         name: u64,
         colour: u64,
     ) -> Result<Draft, (Draft, Refusal)>
-        ensures { RelayStep C.Cost.link self (lists names.old colours.old ends.now costs.now) (lists names.new colours.new ends.now costs.now) name colour result }
+        ensures { RelayStep C.Cost.link self (lists names.old colours.old ends.now costs.now)
+            (lists names.new colours.new ends.now costs.now) name colour result }
     {
         if let Err(refusal) = check_relay(self.counts, names, colours, ends, costs, name, colour) {
             return Err((self, refusal));
@@ -183,7 +194,8 @@ impl Draft {
         to: u64,
         cost: C,
     ) -> Result<Draft, (Draft, Refusal)>
-        ensures { LinkStep C.Cost.link self (lists names.now colours.now ends.old costs.old) (lists names.now colours.now ends.new costs.new) from to cost result }
+        ensures { LinkStep C.Cost.link self (lists names.now colours.now ends.old costs.old)
+            (lists names.now colours.now ends.new costs.new) from to cost result }
     {
         let pair = match check_link(self.counts, names, colours, ends, costs, from, to, cost) {
             Ok(pair) => pair,

@@ -14,7 +14,8 @@ pub enum PlanKind {
 impl PlanKind {
     // The kind that a letter stands for.
     pub fn from_letter(letter: char) -> Option<PlanKind>
-        ensures { MatchOption result ((k : PlanKind) → letter_of k ≢ letter) (λ k. letter_of k ≡ letter) }
+        ensures { MatchOption result ((k : PlanKind) → letter_of k ≢ letter)
+            (λ k. letter_of k ≡ letter) }
     {
         match letter {
             'D' => Some(PlanKind::Delay),
@@ -26,14 +27,17 @@ impl PlanKind {
     // The kind whose letter stands at this place of a text.
     fn at(text: &[u8], place: usize) -> Option<PlanKind>
         requires { place < length text.now }
-        ensures { MatchOption result ((k : PlanKind) → letter_of k ≢ slice_index text.now place) (λ k. letter_of k ≡ slice_index text.now place) }
+        ensures { MatchOption result ((k : PlanKind) → letter_of k ≢ slice_index text.now place)
+            (λ k. letter_of k ≡ slice_index text.now place) }
     {
         PlanKind::from_letter(char::from(text[place]))
     }
 
     // The kind whose letter begins the second line of a plan's text.
     pub fn of_text(text: &[u8]) -> Option<PlanKind>
-        ensures { MatchOption result ((k : PlanKind) (rest : List ℕ) → text.now ≢ plan_heading ++ letter_of k ∷ rest) (λ k. (rest : List ℕ) × (text.now ≡ plan_heading ++ letter_of k ∷ rest)) }
+        ensures { MatchOption result
+            ((k : PlanKind) (rest : List ℕ) → text.now ≢ plan_heading ++ letter_of k ∷ rest)
+            (λ k. (rest : List ℕ) × (text.now ≡ plan_heading ++ letter_of k ∷ rest)) }
     {
         let Some(at) = literal(text, 0, b"kind colours relays links\n") else {
             return None;
@@ -46,7 +50,8 @@ impl PlanKind {
 
     // Where a text goes on behind the letter of this kind and a space, if they stand at `at`.
     pub(crate) fn behind_letter(self, text: &[u8], at: usize) -> Option<usize>
-        ensures { MatchOption result (Lacks (drop at text.now) (label_of self)) (λ p. drop at text.now ≡ label_of self ++ drop p text.now) }
+        ensures { MatchOption result (Lacks (drop at text.now) (label_of self))
+            (λ p. drop at text.now ≡ label_of self ++ drop p text.now) }
     {
         if at >= text.len() {
             return None;

@@ -35,7 +35,12 @@ fn read_relay_heading(
     relays: u16,
     links: u16,
 ) -> Result<Progress, Refused>
-    ensures { elim result [ Ok s ↦ (s.draft ≡ draft) × (s.relays ≡ relays) × (s.links ≡ links) × (drop at text.now ≡ relay_heading ++ drop s.at text.now) | Err e ↦ Lacks (drop at text.now) relay_heading × Says e NotInForm 3 by_text (Some draft) ] }
+    ensures { elim result [
+      | Ok s ↦ (s.draft ≡ draft) × (s.relays ≡ relays) × (s.links ≡ links)
+          × (drop at text.now ≡ relay_heading ++ drop s.at text.now)
+      | Err e ↦ Lacks (drop at text.now) relay_heading
+          × Says e NotInForm 3 by_text (Some draft)
+    ] }
 {
     match literal(text, at, b"name colour\n") {
         Some(at) => Ok(Progress {
@@ -58,7 +63,12 @@ struct Progress {
 
 // Reads the first block, and the heading of the second.
 fn read_start<C: TextCost>(text: &[u8]) -> Result<Progress, Refused>
-    ensures { elim result [ Ok s ↦ Begun C.TextCost.kind text.now s.at s.relays s.links s.draft | Err e ↦ ((l : Lists C) → Stopped C.Cost.link C.TextCost.kind C.TextCost.width C.TextCost.shown C.TextCost.read text.now l l e) ] }
+    ensures { elim result [
+      | Ok s ↦ Begun C.TextCost.kind text.now s.at s.relays s.links s.draft
+      | Err e ↦ ((l : Lists C)
+          → Stopped C.Cost.link C.TextCost.kind C.TextCost.width C.TextCost.shown
+          C.TextCost.read text.now l l e)
+    ] }
 {
     let Some(first) = literal(text, 0, b"kind colours relays links\n") else {
         return Err(not_in_form(1, None));
@@ -101,7 +111,15 @@ fn read_relay<C: TextCost>(
     ends: &[Ends],
     costs: &[C],
 ) -> Result<(Draft, usize), Refused>
-    ensures { elim result [ Ok x ↦ RelayRead C.Cost.link C.TextCost.kind C.TextCost.width C.TextCost.shown C.TextCost.read text.now at x.1 (lists names.old colours.old ends.now costs.now) (lists names.new colours.new ends.now costs.now) draft x.0 | Err e ↦ RelayStopped C.Cost.link C.TextCost.kind C.TextCost.width C.TextCost.shown C.TextCost.read text.now at line (lists names.old colours.old ends.now costs.now) draft e × (names.new ≡ names.old) × (colours.new ≡ colours.old) ] }
+    ensures { elim result [
+      | Ok x ↦ RelayRead C.Cost.link C.TextCost.kind C.TextCost.width C.TextCost.shown
+          C.TextCost.read text.now at x.1 (lists names.old colours.old ends.now costs.now)
+          (lists names.new colours.new ends.now costs.now) draft x.0
+      | Err e ↦ RelayStopped C.Cost.link C.TextCost.kind C.TextCost.width C.TextCost.shown
+          C.TextCost.read text.now at line (lists names.old colours.old ends.now costs.now) draft
+          e
+          × (names.new ≡ names.old) × (colours.new ≡ colours.old)
+    ] }
 {
     let mut numbers = [0; 2];
     let Some(next) = row(text, at, &mut numbers) else {
@@ -132,7 +150,15 @@ fn read_link<C: TextCost>(
     ends: &mut [Ends],
     costs: &mut [C],
 ) -> Result<(Draft, usize), Refused>
-    ensures { elim result [ Ok x ↦ LinkRead C.Cost.link C.TextCost.kind C.TextCost.width C.TextCost.shown C.TextCost.read text.now at x.1 (lists names.now colours.now ends.old costs.old) (lists names.now colours.now ends.new costs.new) draft x.0 | Err e ↦ LinkStopped C.Cost.link C.TextCost.kind C.TextCost.width C.TextCost.shown C.TextCost.read text.now at line (lists names.now colours.now ends.old costs.old) draft e × (ends.new ≡ ends.old) × (costs.new ≡ costs.old) ] }
+    ensures { elim result [
+      | Ok x ↦ LinkRead C.Cost.link C.TextCost.kind C.TextCost.width C.TextCost.shown
+          C.TextCost.read text.now at x.1 (lists names.now colours.now ends.old costs.old)
+          (lists names.now colours.now ends.new costs.new) draft x.0
+      | Err e ↦ LinkStopped C.Cost.link C.TextCost.kind C.TextCost.width C.TextCost.shown
+          C.TextCost.read text.now at line (lists names.now colours.now ends.old costs.old) draft
+          e
+          × (ends.new ≡ ends.old) × (costs.new ≡ costs.old)
+    ] }
 {
     // The names of the two ends, and at most three numbers for the cost.
     let mut buffer = [0; 5];
@@ -164,8 +190,17 @@ fn read_relays<C: TextCost>(
     ends: &[Ends],
     costs: &[C],
 ) -> Result<Progress, Refused>
-    requires { Begun C.TextCost.kind text.now progress.at progress.relays progress.links progress.draft }
-    ensures { elim result [ Ok x ↦ RelaysRead C.Cost.link C.TextCost.kind C.TextCost.width C.TextCost.shown C.TextCost.read text.now x.at x.relays x.links x.relays (lists names.old colours.old ends.now costs.now) (lists names.new colours.new ends.now costs.now) x.draft | Err e ↦ Stopped C.Cost.link C.TextCost.kind C.TextCost.width C.TextCost.shown C.TextCost.read text.now (lists names.old colours.old ends.now costs.now) (lists names.new colours.new ends.now costs.now) e ] }
+    requires { Begun C.TextCost.kind text.now progress.at progress.relays progress.links
+        progress.draft }
+    ensures { elim result [
+      | Ok x ↦ RelaysRead C.Cost.link C.TextCost.kind C.TextCost.width C.TextCost.shown
+          C.TextCost.read text.now x.at x.relays x.links x.relays
+          (lists names.old colours.old ends.now costs.now)
+          (lists names.new colours.new ends.now costs.now) x.draft
+      | Err e ↦ Stopped C.Cost.link C.TextCost.kind C.TextCost.width C.TextCost.shown
+          C.TextCost.read text.now (lists names.old colours.old ends.now costs.now)
+          (lists names.new colours.new ends.now costs.now) e
+    ] }
 {
     let Progress {
         mut draft,
@@ -204,8 +239,19 @@ fn read_links<C: TextCost>(
     ends: &mut [Ends],
     costs: &mut [C],
 ) -> Result<Progress, Refused>
-    requires { RelaysThere C.Cost.link C.TextCost.kind C.TextCost.width C.TextCost.shown C.TextCost.read text.now progress.at progress.relays progress.links (lists names.now colours.now ends.old costs.old) progress.draft }
-    ensures { elim result [ Ok x ↦ LinksRead C.Cost.link C.TextCost.kind C.TextCost.width C.TextCost.shown C.TextCost.read text.now x.at x.relays x.links x.links (lists names.now colours.now ends.old costs.old) (lists names.now colours.now ends.new costs.new) x.draft × (x.draft.counts.relays ≡ progress.draft.counts.relays) | Err e ↦ LinksStopped C.Cost.link C.TextCost.kind C.TextCost.width C.TextCost.shown C.TextCost.read text.now (lists names.now colours.now ends.old costs.old) (lists names.now colours.now ends.new costs.new) progress.draft e ] }
+    requires { RelaysThere C.Cost.link C.TextCost.kind C.TextCost.width C.TextCost.shown
+        C.TextCost.read text.now progress.at progress.relays progress.links
+        (lists names.now colours.now ends.old costs.old) progress.draft }
+    ensures { elim result [
+      | Ok x ↦ LinksRead C.Cost.link C.TextCost.kind C.TextCost.width C.TextCost.shown
+          C.TextCost.read text.now x.at x.relays x.links x.links
+          (lists names.now colours.now ends.old costs.old)
+          (lists names.now colours.now ends.new costs.new) x.draft
+          × (x.draft.counts.relays ≡ progress.draft.counts.relays)
+      | Err e ↦ LinksStopped C.Cost.link C.TextCost.kind C.TextCost.width C.TextCost.shown
+          C.TextCost.read text.now (lists names.now colours.now ends.old costs.old)
+          (lists names.now colours.now ends.new costs.new) progress.draft e
+    ] }
 {
     let Progress {
         mut draft,
@@ -248,8 +294,18 @@ pub fn read_plan<C: TextCost>(
     ends: &mut [Ends],
     costs: &mut [C],
 ) -> Result<Closed, Refused>
-    ensures outcome { elim result [ Ok p ↦ Read C.Cost.link C.TextCost.kind C.TextCost.width C.TextCost.shown C.TextCost.read text.now (lists names.old colours.old ends.old costs.old) (lists names.new colours.new ends.new costs.new) p.counts | Err e ↦ Stopped C.Cost.link C.TextCost.kind C.TextCost.width C.TextCost.shown C.TextCost.read text.now (lists names.old colours.old ends.old costs.old) (lists names.new colours.new ends.new costs.new) e ] }
-    ensures complete { (p : Plan C) → Sound C.Cost.link p → Closable p → Fits p (lists names.old colours.old ends.old costs.old) → text.now ≡ text_of C.TextCost.kind C.TextCost.shown p → Gives p (lists names.new colours.new ends.new costs.new) result }
+    ensures outcome { elim result [
+      | Ok p ↦ Read C.Cost.link C.TextCost.kind C.TextCost.width C.TextCost.shown C.TextCost.read
+          text.now (lists names.old colours.old ends.old costs.old)
+          (lists names.new colours.new ends.new costs.new) p.counts
+      | Err e ↦ Stopped C.Cost.link C.TextCost.kind C.TextCost.width C.TextCost.shown
+          C.TextCost.read text.now (lists names.old colours.old ends.old costs.old)
+          (lists names.new colours.new ends.new costs.new) e
+    ] }
+    ensures complete { (p : Plan C) → Sound C.Cost.link p → Closable p
+        → Fits p (lists names.old colours.old ends.old costs.old)
+        → text.now ≡ text_of C.TextCost.kind C.TextCost.shown p
+        → Gives p (lists names.new colours.new ends.new costs.new) result }
 {
     let progress = read_start::<C>(text)?;
     let progress = read_relays(text, progress, names, colours, ends, costs)?;

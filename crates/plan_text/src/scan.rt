@@ -9,7 +9,8 @@ const MOST_DIGITS: usize = 10;
 
 // Where the text goes on behind `word`, if `word` stands at `at`.
 pub(crate) fn literal(text: &[u8], at: usize, word: &[u8]) -> Option<usize>
-    ensures { MatchOption result ((rest : List ℕ) → drop at text.now ≢ word.now ++ rest) (λ p. (p ≤ length text.now) × (drop at text.now ≡ word.now ++ drop p text.now)) }
+    ensures { MatchOption result ((rest : List ℕ) → drop at text.now ≢ word.now ++ rest)
+        (λ p. (p ≤ length text.now) × (drop at text.now ≡ word.now ++ drop p text.now)) }
 {
     // Past its end the text goes on with nothing.
     let start = at.min(text.len());
@@ -37,8 +38,11 @@ fn digits_end(text: &[u8], at: usize) -> usize
 // The number at `at` and where its digits end: at most ten of them, and no zero before others.
 fn number(text: &[u8], at: usize) -> Option<(u64, usize)>
     ensures { MatchOption result
-        ((n : ℕ) (rest : List ℕ) → TenDigits n → (IsInRange 48 57 (slice_index rest 0) → ⊥) → drop at text.now ≢ decimal n ++ rest)
-        (λ x. (x.1 ≤ length text.now) × TenDigits x.0 × (drop at text.now ≡ decimal x.0 ++ drop x.1 text.now) × (IsInRange 48 57 (slice_index text.now x.1) → ⊥)) }
+        ((n : ℕ) (rest : List ℕ) → TenDigits n → (IsInRange 48 57 (slice_index rest 0) → ⊥)
+        → drop at text.now ≢ decimal n ++ rest)
+        (λ x. (x.1 ≤ length text.now) × TenDigits x.0
+        × (drop at text.now ≡ decimal x.0 ++ drop x.1 text.now)
+        × (IsInRange 48 57 (slice_index text.now x.1) → ⊥)) }
 {
     let end = digits_end(text, at);
     let count = end - at;
@@ -59,8 +63,10 @@ fn number(text: &[u8], at: usize) -> Option<(u64, usize)>
 pub(crate) fn row(text: &[u8], at: usize, numbers: &mut [u64]) -> Option<usize>
     requires { 0 < length numbers.old }
     ensures { MatchOption result
-        ((ns rest : List ℕ) → length ns ≡ length numbers.old → AllByRecursion TenDigits ns → drop at text.now ≢ LineOf ns ++ rest)
-        (λ p. (p ≤ length text.now) × AllByRecursion TenDigits numbers.new × (drop at text.now ≡ LineOf numbers.new ++ drop p text.now)) }
+        ((ns rest : List ℕ) → length ns ≡ length numbers.old → AllByRecursion TenDigits ns
+        → drop at text.now ≢ LineOf ns ++ rest)
+        (λ p. (p ≤ length text.now) × AllByRecursion TenDigits numbers.new
+        × (drop at text.now ≡ LineOf numbers.new ++ drop p text.now)) }
 {
     let mut next = at;
     for (i, place) in numbers.iter_mut().enumerate() {
