@@ -1,59 +1,59 @@
--- How many colours are marked, and what a mark that is set or taken away changes.
-use Rattle.std.proofs.Common.{◌≡◌, ℕ, zero, suc, ◌+◌, ◌<◌, ◌≤◌, Bool, true, false, ◌⊎◌, ◌↔◌, List, [], ◌∷◌, length, get_or, set, replicate, sym, refl, ◌∙◌, subst, inl, inr, arith, get_or-set_other, get_or-set_same}
-use Rattle.std.proofs.lemmas.Bool.{cases_eq, cases_Bool, false≢true}
+-- How many colours are marked.
+use Rattle.std.proofs.Common.{◌≡◌, ℕ, zero, suc, ◌-◌, ◌<◌, ◌≤◌, Bool, true, false, ◌⊎◌, ◌↔◌, List, ◌∷◌, ◌++◌, length, get_or, replicate, count_by, cond, sym, refl, ap, ◌∙◌, subst, inl, inr, arith}
+use lib.ListN.{get_or-eq_default}
+use Rattle.std.proofs.lemmas.List.{get_or_default, get_or-replicate, get_or_append_left, get_or-append_right, length-replicate}
+use Rattle.std.proofs.lemmas.List.Sums.{get_or-le-sum_by, sum_by-le, sum_by-append, sum_by-cons}
+use Rattle.std.proofs.lemmas.List.Folds.{sum_by-replicate}
+use Rattle.std.proofs.lemmas.Bool.{cases_lt, cases_Bool, false≢true}
 use Rattle.plan.specs.Reach.{IsMarked}
-use Rattle.balls.specs.Colours.{marked}
+use Rattle.plan.specs.Sound.{IsColour}
 
-pub none_marked : (ms : List Bool) → marked ms ≡ 0 → (c : ℕ) → IsMarked ms c → ⊥
-none_marked [] e c h = false≢true h
-none_marked (true ∷ ms) e c h = omega (arith, e)
-none_marked (false ∷ ms) e zero h = false≢true h
-none_marked (false ∷ ms) e (suc c) h = none_marked ms (omega (arith, e)) c h
+abbrev pub marked : List Bool → ℕ
+marked marks = count_by (λ m. m) marks
 
-pub marked_none : (ms : List Bool) → ((c : ℕ) → IsMarked ms c → ⊥) → marked ms ≡ 0
-marked_none [] h = refl
-marked_none (true ∷ ms) h = absurd (h 0 refl)
-marked_none (false ∷ ms) h = let rest = marked_none ms (λ c. h (suc c)) in omega (arith, rest)
+abbrev one_if : Bool → ℕ
+one_if mark = cond mark 1 0
 
--- one more mark, and one less
-pub marked_more : (ms : List Bool) (c : ℕ) → c < length ms → get_or ms c false ≡ false → marked (set ms c true) ≡ marked ms + 1
-marked_more [] c l e = absurd (omega arith)
-marked_more (true ∷ ms) zero l e = absurd (false≢true (sym e))
-marked_more (false ∷ ms) zero l e = omega arith
-marked_more (true ∷ ms) (suc c) l e = let rest = marked_more ms c (omega arith) e in omega (arith, rest)
-marked_more (false ∷ ms) (suc c) l e = let rest = marked_more ms c (omega arith) e in omega (arith, rest)
+pub none_marked : (marks : List Bool) → marked marks ≡ 0 → (c : ℕ) → IsMarked marks c → ⊥
+none_marked marks none c h = by (cases_lt c (length marks))
+  where
+    by : (c < length marks) ⊎ (length marks ≤ c) → ⊥
+    by (inl l) = omega (arith, none, ap one_if h, get_or-le-sum_by one_if marks c false l)
+    by (inr l) = false≢true (sym (get_or-eq_default marks false {n = c} l) ∙ h)
 
-pub marked_less : (ms : List Bool) (c : ℕ) → IsMarked ms c → marked (set ms c false) + 1 ≡ marked ms
-marked_less [] c e = absurd (false≢true e)
-marked_less (true ∷ ms) zero e = omega arith
-marked_less (false ∷ ms) zero e = absurd (false≢true e)
-marked_less (true ∷ ms) (suc c) e = let rest = marked_less ms c e in omega (arith, rest)
-marked_less (false ∷ ms) (suc c) e = let rest = marked_less ms c e in omega (arith, rest)
+pub marked_none : (marks : List Bool) → ((c : ℕ) → IsMarked marks c → ⊥) → marked marks ≡ 0
+marked_none marks none = omega (arith, sum_by-le one_if 0 marks (λ k d l. by k d l (cases_Bool (get_or marks k d))))
+  where
+    by : (k : ℕ) (d : Bool) → k < length marks → (get_or marks k d ≡ true) ⊎ (get_or marks k d ≡ false) → one_if (get_or marks k d) ≤ 0
+    by k d l (inl e) = absurd (none k (get_or_default marks k false d l ∙ e))
+    by k d l (inr e) = omega (arith, ap one_if e)
 
--- which colours are marked: none at first, then one more
-pub marks_none : (n c : ℕ) → IsMarked (replicate n false) c → ⊥
-marks_none zero c h = false≢true h
-marks_none (suc n) zero h = false≢true h
-marks_none (suc n) (suc c) h = marks_none n c h
+unset : (n j : ℕ) → get_or (replicate n false) j false ≡ false
+unset zero j = refl
+unset (suc n) zero = refl
+unset (suc n) (suc j) = unset n j
 
-module _ (ms : List Bool) (k : ℕ) (l : k < length ms) (up_to : (c : ℕ) → IsMarked ms c ↔ ((1 ≤ c) × (c < k))) (low : 1 ≤ k) where
-  pub not_yet : get_or ms k false ≡ false
-  not_yet = by (cases_Bool (get_or ms k false))
-    where
-      by : (get_or ms k false ≡ true) ⊎ (get_or ms k false ≡ false) → get_or ms k false ≡ false
-      by (inl h) = absurd (omega (arith, ((up_to k).0 h).1))
-      by (inr h) = h
+-- the colours 1 to k are marked, of n numbers past 0
+abbrev marks_to : ℕ → ℕ → List Bool
+marks_to k n = false ∷ (replicate k true ++ replicate (n - k) false)
 
-  pub marks_more : (c : ℕ) → IsMarked (set ms k true) c ↔ ((1 ≤ c) × (c < k + 1))
-  marks_more c = by (cases_eq c k)
-    where
-      by : (c ≡ k) ⊎ (c ≡ k → ⊥) → IsMarked (set ms k true) c ↔ ((1 ≤ c) × (c < k + 1))
-      by (inl e) = (
-        (λ h. (omega arith, omega arith)),
-        λ h. subst (λ (x : ℕ). IsMarked (set ms k true) x) (sym e) (get_or-set_same ms k true false l),
-      )
-      by (inr ne) =
-          let same = get_or-set_other ms k c true false ne in (
-            (λ h. let b = (up_to c).0 (sym same ∙ h) in (b.0, omega (arith, b.1))),
-            λ h. same ∙ (up_to c).1 (h.0, omega (arith, h.1, ne)),
-          )
+pub marked-marks_to : (k n : ℕ) (marks : List Bool) → marks ≡ marks_to k n → k ≡ marked marks
+marked-marks_to k n marks e =
+    let parts = sum_by-append one_if (replicate k true) (replicate (n - k) false) in
+    let first = sum_by-cons one_if false (replicate k true ++ replicate (n - k) false) in
+    omega (arith, ap marked e, first, parts, sum_by-replicate one_if k true, sum_by-replicate one_if (n - k) false)
+
+pub IsMarked-marks_to : (k n : ℕ) (marks : List Bool) → marks ≡ marks_to k n → (c : ℕ) → IsMarked marks c ↔ IsColour k c
+IsMarked-marks_to k n marks e c = subst (λ (ms : List Bool). IsMarked ms c ↔ IsColour k c) (sym e) (at c)
+  where
+    at : (c : ℕ) → IsMarked (marks_to k n) c ↔ IsColour k c
+    at zero = ((λ h. absurd (false≢true h)), λ h. absurd (omega (arith, h.0)))
+    at (suc d) = by (cases_lt d k)
+      where
+        by : (d < k) ⊎ (k ≤ d) → IsMarked (marks_to k n) (suc d) ↔ IsColour k (suc d)
+        by (inl l) =
+            let here = get_or_append_left (replicate k true) (replicate (n - k) false) false d (omega (arith, l, length-replicate k true)) in
+            ((λ h. (omega arith, omega arith)), λ h. here ∙ get_or-replicate k d true false l)
+        by (inr l) =
+            let here = get_or-append_right (replicate k true) (replicate (n - k) false) k d false (length-replicate k true) l in
+            ((λ h. absurd (false≢true (sym (unset (n - k) (d - k)) ∙ sym here ∙ h))), λ h. absurd (omega (arith, h.1)))

@@ -1,5 +1,5 @@
-pub mod Inserting
-pub mod Squares
 pub mod Counting
 pub mod Meeting
+pub mod Sorted
 pub mod Nearby
+pub mod Entries

@@ -1,4 +1,4 @@
 pub mod Lists
+pub mod Checks
 pub mod Told
 pub mod Rows
-pub mod Colours

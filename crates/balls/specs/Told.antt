@@ -1,68 +1,74 @@
 -- What is told of the neighbourhoods of a measured plan.
-use Rattle.std.specs.Prelude.{◌≡◌, ℕ, ◌*◌, ◌<◌, ◌≤◌, ◌⊎◌, List, length, take, Option, MatchOption}
+use Rattle.std.specs.Prelude.{◌≡◌, ℕ, List, length, take, Option, MatchOption}
+use Rattle.kind.specs.Laws.{CostKind}
 use Rattle.plan.specs.declared.counts.Counts.{Counts}
-use Rattle.plan.specs.declared.ends.Ends.{Ends}
-use Rattle.plan.specs.declared.refusal.Refusal.{Refusal}
-use Rattle.plan.specs.declared.refusal.Refusal.TheVariants.{UnknownSource, ListTooShort}
-use Rattle.plan.specs.Checks.{when, ◌then◌}
-use Rattle.plan.specs.Plan.{Plan, lists}
+use Rattle.plan.specs.Plan.{Plan, Lists, plan_of, IsLong}
 use Rattle.plan.specs.Sound.{Sound, ColourUsed}
-use Rattle.plan.specs.Steps.{Holds}
 use Rattle.measure.specs.Distance.{Distances}
 use Rattle.measure.specs.Squares.{in_square}
 use Rattle.order.specs.Seen.{Order, BallSize, Covers, Ball, Manager, Home}
 use Rattle.order.specs.Balls.{Balls}
-use Rattle.balls.specs.Lists.{colour_at, Shows, NoneOf, FirstOf, SomeAbsent}
+use Rattle.balls.specs.Lists.{MeasuredLists, colour_at, Shows, NoneOf, FirstOf, SomeAbsent, first_relays, distance_in}
 
--- when the lists of colours and distances of a measured plan are refused
-abbrev pub NearRefused : {C : Type 0} → Counts → List ℕ → List C → Refusal → Type 0
-NearRefused n colours distances = when ListTooShort ((length colours < n.relays) ⊎ (length distances < n.relays * n.relays))
+module _ {C : Type 0} (K : CostKind C) where
+  -- m is the part of these lists that belongs to the plan, whatever names and links stand beside
+  -- them: it has the plan's colours, and where the distances are the plan's, so are those of m
+  abbrev pub IsOfPlan : Counts → List ℕ → List C → MeasuredLists C → Type 0
+  IsOfPlan n colours distances m =
+      (l : Lists C) → l.relays.colours ≡ colours → IsLong n l
+      → let p = plan_of n l in
+      Shows m p
+      × (Distances K p (in_square K.none (length p.relays) distances)
+      → Distances K p (distance_in m K))
 
--- when writing the order that u sees of n relays into the list zs is refused
-abbrev pub OrderRefused : ℕ → ℕ → List ℕ → Refusal → Type 0
-OrderRefused n u zs = when ListTooShort (length zs < n) then when UnknownSource (n ≤ u)
+  module _ (m : MeasuredLists C) where
+    -- for every sound plan whose distances these are: the theory of balls and managers
+    abbrev pub HasTheory : Type 0
+    HasTheory =
+        (p : Plan C) → Sound K p → Distances K p (distance_in m K) → Balls K (distance_in m K) p
 
--- k is the number of colours, and cs and cells are the entries that belong to the plan
-pub record Entries {C : Type 0} (n : Counts) (colours : List ℕ) (distances : List C) (k : ℕ) (cs : List ℕ) (cells : List C) : Type 0 where
-  pub palette : k ≡ n.colours
-  pub of_relays : cs ≡ take n.relays colours
-  pub of_pairs : cells ≡ take (n.relays * n.relays) distances
+    -- for every plan of so many relays:
+    -- the order lists the relays as u sees them, by these distances
+    abbrev pub IsSeenFrom : ℕ → List ℕ → Type 0
+    IsSeenFrom u order =
+        (p : Plan C) → length p.relays ≡ length m.colours
+        → Order K (distance_in m K) p u (first_relays m order)
 
-module _ {C : Type 0} (none : C) (plus : C → C → C) (less : C → C → Type 0) where
-  -- for every plan that the lists hold: these are its colours, and if the list of distances has its distances, so have the cells
-  abbrev pub OfPlan : Counts → List ℕ → List C → ℕ → List ℕ → List C → Type 0
-  OfPlan n colours distances k cs cells =
-      (names : List ℕ) (ends : List Ends) (costs : List C) (p : Plan C) → Holds n (lists names colours ends costs) p
-      → Shows p k cs
-      × (Distances none plus less p (in_square none (length p.relays) distances) → Distances none plus less p (in_square none (length cs) cells))
+module _ {C : Type 0} (m : MeasuredLists C) (order : List ℕ) where
+  -- Whatever the lists hold: how many relays of the order it takes to meet all the colours,
+  -- and none where they lack one.
+  abbrev pub FindsSize : Option ℕ → Type 0
+  FindsSize r =
+      let zs = first_relays m order in
+      MatchOption r
+      (Covers (colour_at m.colours) m.palette zs (length zs) → ⊥)
+      (λ b. BallSize (colour_at m.colours) m.palette zs b)
 
-  -- for every sound plan whose distances the cells have: the theory of balls and managers
-  abbrev pub InTheory : (C → Type 0) → List ℕ → List C → Type 0
-  InTheory link cs cells =
-      (p : Plan C) → Sound link p → Distances none plus less p (in_square none (length cs) cells) → Balls none plus less (in_square none (length cs) cells) p
+  -- Whatever the lists hold: the first relay of the order that has the colour c,
+  -- and none where no relay has it.
+  abbrev pub FindsFirst : ℕ → Option ℕ → Type 0
+  FindsFirst c r =
+      let zs = first_relays m order in
+      MatchOption r (NoneOf zs m.colours c) (λ x. FirstOf zs m.colours c x)
 
--- for every plan of so many relays: the first entries of zs are the relays in the order that u sees, by the distances of the cells
-abbrev pub OrderTold : {C : Type 0} → C → (C → C → Type 0) → List ℕ → List C → ℕ → List ℕ → Type 0
-OrderTold {C} none less cs cells u zs =
-    (p : Plan C) → length p.relays ≡ length cs → Order less (in_square none (length cs) cells) p u (take (length cs) zs)
+module _ {C : Type 0} (K : CostKind C) (m : MeasuredLists C) (order : List ℕ) where
+  -- for every plan of these colours whose relay u sees this order, by any distances D
+  abbrev pub WhereSeen : (Plan C → (ℕ → ℕ → C) → ℕ → Type 0) → Type 0
+  WhereSeen P =
+      (p : Plan C) (D : ℕ → ℕ → C) (u : ℕ)
+      → Shows m p → Order K D p u (first_relays m order) → P p D u
 
--- whatever the lists hold: how many of zs it takes to meet the colours 1 to k, and nothing if zs lack one
-abbrev pub SizeTold : ℕ → List ℕ → List ℕ → Option ℕ → Type 0
-SizeTold k cs zs r = MatchOption r (Covers (colour_at cs) k zs (length zs) → ⊥) (λ b. BallSize (colour_at cs) k zs b)
+  -- so many of the relays are its ball, and there is none only if a colour is absent
+  abbrev pub FindsBall : Option ℕ → Type 0
+  FindsBall r = WhereSeen (λ p D u.
+      MatchOption r (SomeAbsent p) (λ b. Ball K D p u (take b (first_relays m order))))
 
--- whatever the lists hold: the first of zs that is a relay of the colour c, and nothing if none is
-abbrev pub FirstTold : List ℕ → List ℕ → ℕ → Option ℕ → Type 0
-FirstTold cs zs c r = MatchOption r (NoneOf zs cs c) (λ m. FirstOf zs cs c m)
+  -- its manager for c, and none only if no relay has the colour
+  abbrev pub FindsManager : ℕ → Option ℕ → Type 0
+  FindsManager c r = WhereSeen (λ p D u.
+      MatchOption r (ColourUsed p c → ⊥) (λ x. Manager K D p u c x))
 
-module _ {C : Type 0} (less : C → C → Type 0) (k : ℕ) (cs zs : List ℕ) where
-  -- for every plan of these colours, and the order that a relay of it sees: so many of the relays are its ball, and nothing is told only if a colour is absent
-  abbrev pub BallTold : Option ℕ → Type 0
-  BallTold r = (p : Plan C) (D : ℕ → ℕ → C) (u : ℕ) → Shows p k cs → Order less D p u zs → MatchOption r (SomeAbsent p) (λ b. Ball less D p u (take b zs))
-
-  -- for every plan of these colours, and the order that a relay of it sees: its manager for c, and nothing only if no relay has the colour
-  abbrev pub ManagerTold : ℕ → Option ℕ → Type 0
-  ManagerTold c r = (p : Plan C) (D : ℕ → ℕ → C) (u : ℕ) → Shows p k cs → Order less D p u zs → MatchOption r (ColourUsed p c → ⊥) (λ m. Manager less D p u c m)
-
-  -- the same of its home landmark
-  abbrev pub HomeTold : Option ℕ → Type 0
-  HomeTold r = (p : Plan C) (D : ℕ → ℕ → C) (u : ℕ) → Shows p k cs → Order less D p u zs → MatchOption r (ColourUsed p 1 → ⊥) (λ l. Home less D p u l)
+  -- its home landmark, and none only if there is no landmark
+  abbrev pub FindsHome : Option ℕ → Type 0
+  FindsHome r = WhereSeen (λ p D u.
+      MatchOption r (ColourUsed p 1 → ⊥) (λ x. Home K D p u x))

@@ -1,4 +1,5 @@
-// What each relay has near it: the order that it sees, its ball, its managers and its home landmark.
+//! What each relay has near it: the order that it sees,
+//! its ball, its managers and its home landmark.
 
 #![tactic(auto)]
 

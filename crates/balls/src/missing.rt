@@ -1,14 +1,23 @@
-ghost use Rattle.std.specs.Prelude.{◌≡◌, ℕ, ◌↔◌, Decides, ◌≢◌};
+ghost use Rattle.std.specs.Prelude.{◌≡◌, ℕ, ◌-◌, ◌↔◌, true, false, IsTrue, ◌≢◌, ◌∷◌, ◌++◌, replicate, count_by};
 ghost use Rattle.plan.specs.Reach.{IsMarked};
 ghost use Rattle.plan.specs.Sound.{IsColour};
-ghost use Rattle.balls.specs.Colours.{marked};
 
-// The colours that have not been met yet: a mark for each, and how many there are.
+// The colours that have not been met yet: a mark for each, and how many marks are left.
+// To ask every mark whenever a relay is met, in place of the count, would be no plainer.
 #[derive(Drop)]
 pub(crate) struct Missing {
     marks: [bool; 256],
     count: usize,
-    ghost counted: { count ≡ marked marks },
+    ghost counted: { count ≡ count_by (λ mark. mark) marks },
+}
+
+// A mark for each of the colours 1 to `palette`.
+fn marks_to(palette: u8) -> [bool; 256]
+    ensures { result ≡ false ∷ (replicate palette true ++ replicate (255 - palette) false) }
+{
+    let mut marks = [false; 256];
+    marks[1..=usize::from(palette)].fill(true);
+    marks
 }
 
 impl Missing {
@@ -16,17 +25,14 @@ impl Missing {
     pub(crate) fn all(palette: u8) -> Missing
         ensures { (c : ℕ) → IsMarked result.marks c ↔ IsColour palette c }
     {
-        let mut marks = [false; 256];
-        let mut count = 0;
-        for colour in 1..usize::from(palette) + 1 {
-            marks[colour] = true;
-            count += 1;
+        Missing {
+            marks: marks_to(palette),
+            count: usize::from(palette),
         }
-        Missing { marks, count }
     }
 
     pub(crate) fn is_empty(&self) -> bool
-        ensures { Decides result ((c : ℕ) → IsMarked self.now.marks c → ⊥) }
+        ensures { IsTrue result ↔ ((c : ℕ) → IsMarked self.now.marks c → ⊥) }
     {
         self.count == 0
     }

@@ -1,7 +1,8 @@
 -- The 32-bit FNV-1a hash.
 use Rattle.std.specs.Prelude.{ℕ, ◌*◌, ◌/◌, ◌%◌, ◌^◌, List, [], ◌∷◌, fold, bit_xor}
 
--- the hash h after one more byte b: xor the byte, multiply by the prime, and keep the lowest 32 bits
+-- the hash h after one more byte b: xor the byte,
+-- multiply by the prime, and keep the lowest 32 bits
 abbrev pub step : ℕ → ℕ → ℕ
 step h b = (bit_xor h b * 16777619) % 2 ^ 32
 

@@ -1,2 +1,3 @@
 pub mod Fnv1a
 pub mod Colours
+pub mod Kept

@@ -1,4 +1,5 @@
-// Name hashes: for each number of colours one fixed function from names to colours. Two of them, the remainder and FNV-1a.
+//! Name hashes: for each number of colours one fixed function from names to colours.
+//! Two of them, the remainder and FNV-1a.
 
 #![tactic(auto)]
 

@@ -1,4 +1,4 @@
-// Compares the hashes of crate hash with the published vectors of 32-bit FNV-1a.
+//! Compares the hashes of crate hash with the published vectors of 32-bit FNV-1a.
 
 #![tactic(auto)]
 
@@ -9,7 +9,7 @@ use hash::{fnv_1a, fnv_basis, fnv_step};
 use std::io;
 
 // How many vectors were compared, and how many of them differ.
-#[derive(Drop)]
+#[derive(Default, Drop)]
 struct Tally {
     compared: u32,
     differ: u32,
@@ -50,15 +50,14 @@ fn by_name(bytes: [u8; 4]) -> u32
     fnv_1a(u32::from_le_bytes(bytes))
 }
 
-// The hash of any bytes, a step for each.
+// The hash of any bytes, a step for each: crate hash has the same for itself,
+// and this program tries its public steps.
 fn by_steps(bytes: &[u8]) -> u32
     ensures { result ≡ fnv_hash bytes.now }
 {
-    let mut hash = fnv_basis();
-    for byte in bytes {
-        hash = fnv_step(hash, *byte);
-    }
-    hash
+    bytes
+        .iter()
+        .fold(fnv_basis(), |hash, byte| fnv_step(hash, *byte))
 }
 
 // The vectors of any length.
@@ -70,26 +69,23 @@ fn compare_steps(rt: &HostRuntime, tally: &mut Tally) -> io::Result<()> {
 
 // The vectors of four bytes.
 fn compare_names(rt: &HostRuntime, tally: &mut Tally) -> io::Result<()> {
-    let foob = by_name([b'f', b'o', b'o', b'b']);
-    tally.compare(rt, "foob, by name", foob, 0x3f50_76ef)?;
-    let ff_one = by_name([0xff, 0, 0, 0x01]);
-    tally.compare(rt, "ff 00 00 01, by name", ff_one, 0xc48f_b86d)?;
-    let one_ff = by_name([0x01, 0, 0, 0xff]);
-    tally.compare(rt, "01 00 00 ff, by name", one_ff, 0x2269_f369)?;
-    let ff_two = by_name([0xff, 0, 0, 0x02]);
-    tally.compare(rt, "ff 00 00 02, by name", ff_two, 0xc18f_b3b4)?;
-    let two_ff = by_name([0x02, 0, 0, 0xff]);
-    tally.compare(rt, "02 00 00 ff, by name", two_ff, 0x50ef_1236)
+    let vectors = [
+        ("foob, by name", *b"foob", 0x3f50_76ef),
+        ("ff 00 00 01, by name", [0xff, 0, 0, 0x01], 0xc48f_b86d),
+        ("01 00 00 ff, by name", [0x01, 0, 0, 0xff], 0x2269_f369),
+        ("ff 00 00 02, by name", [0xff, 0, 0, 0x02], 0xc18f_b3b4),
+        ("02 00 00 ff, by name", [0x02, 0, 0, 0xff], 0x50ef_1236),
+    ];
+    for (what, bytes, published) in vectors {
+        tally.compare(rt, what, by_name(bytes), published)?;
+    }
+    Ok(())
 }
 
 fn main(rt: HostRuntime) -> io::Result<()> {
-    let mut tally = Tally {
-        compared: 0,
-        differ: 0,
-    };
+    let mut tally = Tally::default();
     compare_steps(&rt, &mut tally)?;
     compare_names(&rt, &mut tally)?;
-    let compared = tally.compared;
-    let differ = tally.differ;
+    let Tally { compared, differ } = tally;
     println!(rt; "{compared} vectors, {differ} differ")
 }

@@ -1,54 +1,38 @@
-ghost use Rattle.std.specs.Prelude.{◌≡◌, Decides};
-ghost use Rattle.std.specs.declared.cmp.Ordering.TheVariants.{Less, Equal, Greater};
-ghost use Rattle.kind.specs.Laws.{Laws};
+ghost use Rattle.std.specs.Prelude.{◌≡◌};
+ghost use Rattle.kind.specs.Laws.{CostKind, Laws};
 ghost use Rattle.kind.specs.Theory.{Theory};
 
-use std::cmp::Ordering;
+use std::ops::Add;
 
-// A kind of costs: a zero, a sum and an order, which keep the laws of specs/Laws.antt.
-pub trait Cost: Copy {
-    ghost none: { Self };
+/// A kind of costs: a zero, a sum, an order, and which costs a link may have. It keeps the laws of specs/Laws.antt.
+/// Costs are compared by `Ord`, and added by `+`.
+pub trait Cost: Copy + Ord + Add<Self, Output = Self> {
+    // What the kind is: its zero, its sums, its order and its links.
+    ghost kind: { CostKind Self };
 
-    ghost plus: { Self → Self → Self };
-
-    ghost less: { Self → Self → Type 0 };
-
-    // Which costs a link may have.
-    ghost link: { Self → Type 0 };
-
-    // The sum as it is computed: exact up to 4,096 link costs in all.
-    ghost adds: { Self → Self → Self };
-
-    ghost laws: { Laws none plus less link adds };
-
+    /// The cost of the empty walk.
     fn zero() -> Self
-        ensures { result ≡ none };
+        ensures { result ≡ kind.none };
 
+    /// Whether a link may have this cost.
     fn is_link(self) -> bool
-        ensures { Decides result (link self) };
+        ensures { result ≡ kind.is_link self };
 
-    fn compare(self, other: Self) -> Ordering
-        ensures { elim result [
-          | Less ↦ less self other
-          | Equal ↦ self ≡ other
-          | Greater ↦ less other self
-        ] };
+    // The kind's order is that of `Ord`.
+    ghost compares: { kind.cmp ≡ Self.cmp };
 
-    fn add(self, other: Self) -> Self
-        ensures { result ≡ adds self other };
+    // Any two costs may be added, and `+` gives `adds`: exact up to 4,096 link costs in all.
+    ghost may_add: { (a b : Self) → Self.can_add a b };
+
+    ghost adds: { (a b c : Self) → Self.add_gives a b c → c ≡ kind.adds a b };
+
+    ghost laws: { Laws kind };
 }
 
-// How many link costs a sum may have to be exact.
-fn most_links() -> u16
-    ensures { result ≡ 4096 }
-{
-    4096
-}
-
-// How many link costs every kind adds up exactly. Any kind has the theory of specs/Theory.antt.
+/// How many link costs every kind adds up exactly. Any kind has the theory of specs/Theory.antt.
 pub fn exact_links<C: Cost>() -> u16
     ensures value { result ≡ 4096 }
-    ensures theory { Theory C.Cost.none C.Cost.plus C.Cost.less C.Cost.link }
+    ensures theory { Theory C.kind }
 {
-    most_links()
+    4096
 }

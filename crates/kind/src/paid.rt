@@ -1,48 +1,23 @@
-ghost use Rattle.std.specs.Prelude.{◌++◌, Some, codes, decimal};
-ghost use Rattle.kind.specs.Kinds.{free, both_paid, Cheaper, PaidLink, paid_added};
+ghost use Rattle.std.specs.Prelude.{◌++◌, Some, codes, decimal, refl, ◌≡◌};
+ghost use Rattle.kind.specs.Kinds.{paid_kind};
 ghost use Rattle.kind.specs.Kept.{paid_laws};
 
 use crate::cost::Cost;
-use std::cmp::Ordering;
 use std::fmt;
+use std::ops::Add;
 
-// Paid segments and a delay; a link has 0 to 1,000 segments and a delay of 1 to 1,000,000.
-#[derive(Clone, Copy)]
+/// Paid segments and a delay; a link has 0 to 1,000 segments and a delay of 1 to 1,000,000.
+/// The segments are compared first: keep them the first field.
+#[derive(Clone, Copy, PartialEq, Eq, PartialOrd, Ord)]
 pub struct Paid {
     pub segments: u32,
     pub delay: u32,
 }
 
-impl Cost for Paid {
-    ghost none = { free };
+impl Add for Paid {
+    type Output = Paid;
 
-    ghost plus = { both_paid };
-
-    ghost less = { Cheaper };
-
-    ghost link = { PaidLink };
-
-    ghost adds = { paid_added };
-
-    ghost laws = { paid_laws };
-
-    fn zero() -> Paid {
-        Paid {
-            segments: 0,
-            delay: 0,
-        }
-    }
-
-    fn is_link(self) -> bool {
-        self.segments <= 1_000 && self.delay >= 1 && self.delay <= 1_000_000
-    }
-
-    fn compare(self, other: Paid) -> Ordering {
-        match self.segments.cmp(&other.segments) {
-            Ordering::Equal => self.delay.cmp(&other.delay),
-            unequal => unequal,
-        }
-    }
+    ghost add_gives = { λ a b c. c ≡ paid_kind.adds a b };
 
     fn add(self, other: Paid) -> Paid {
         Paid {
@@ -52,13 +27,34 @@ impl Cost for Paid {
     }
 }
 
+impl Cost for Paid {
+    ghost kind = { paid_kind };
+
+    fn zero() -> Paid {
+        Paid {
+            segments: 0,
+            delay: 0,
+        }
+    }
+
+    fn is_link(self) -> bool {
+        self.segments <= 1_000 && 1 <= self.delay && self.delay <= 1_000_000
+    }
+
+    ghost compares = { refl };
+
+    ghost may_add = { λ a b. tt };
+
+    ghost adds = { λ a b c h. h };
+
+    ghost laws = { paid_laws };
+}
+
 impl fmt::Display for Paid {
     ghost output = { λ p. Some
         (codes "paid " ++ (decimal p.segments ++ (codes " delay " ++ decimal p.delay))) };
 
     fn fmt<W: fmt::Write>(&self, f: &mut fmt::Formatter<W>) -> fmt::Result {
-        let segments = self.segments;
-        let delay = self.delay;
-        write!(f, "paid {segments} delay {delay}")
+        write!(f, "paid {} delay {}", self.segments, self.delay)
     }
 }

@@ -1,7 +1,8 @@
 -- Where the cells of a square lie, and what a write of one row leaves.
-use Rattle.std.proofs.Common.{◌≡◌, ℕ, ◌+◌, ◌-◌, ◌*◌, ◌<◌, ◌≤◌, ◌⊎◌, List, length, get_or, take, drop, set, sym, ap, ◌∙◌, subst, inl, inr, mul-le-mul_right, add-mul, one-mul, arith, rules}
+use Rattle.std.proofs.Common.{◌≡◌, ℕ, zero, suc, ◌+◌, ◌-◌, ◌*◌, ◌<◌, ◌≤◌, ◌⊎◌, List, [], ◌∷◌, length, get_or, drop, set, sym, ap, ◌∙◌, subst, inl, inr, mul-le-mul_right, add-mul, one-mul, arith, rules}
+use Rattle.std.specs.List.{FoldsTo}
 use borrow.Rule.Slice.PartMut.{put_mid}
-use Rattle.std.proofs.lemmas.List.{places, get_or-set_same, get_or-set_other, get_or-drop, length-take-le, length-drop, same_lists}
+use Rattle.std.proofs.lemmas.List.{places, get_or-set_same, get_or-set_other, get_or-drop, length-drop, same_lists}
 use Rattle.std.proofs.lemmas.Bool.{cases_lt}
 use Rattle.measure.specs.Settling.{Behind}
 
@@ -17,9 +18,6 @@ cell_inside n u x h k = omega (arith, row_end n u n h)
 
 -- what a part that was written holds, and what lies before and behind it
 module _ {V : Type 0} (a k : ℕ) (xs ys : List V) (size : length ys ≡ k) (fits : a + k ≤ length xs) where
-  front : length (take a xs) ≡ a
-  front = length-take-le a xs (omega arith)
-
   pub put_inside : (i : ℕ) (d : V) → i < k → get_or (put_mid a k xs ys) (a + i) d ≡ get_or ys i d
   put_inside i d h = search (rules, places)
 
@@ -68,3 +66,11 @@ pub same_drop : {V : Type 0} (n : ℕ) (xs ys : List V) → length xs ≡ length
 same_drop n xs ys e h =
     same_lists (drop n xs) (drop n ys) (length-drop n xs ∙ ap (λ (m : ℕ). m - n) e ∙ sym (length-drop n ys))
     (λ k d l. get_or-drop n xs k d ∙ h (n + k) d (omega arith) ∙ sym (get_or-drop n ys k d))
+
+-- a list that calls fill, all of which return v
+pub filled : {F V : Type 0} (step : F → V → F → Type 0) (v : V) (f : F) → ((x : V) (g : F) → step f x g → (g ≡ f) × (x ≡ v))
+    → (xs : List V) (g : F) → FoldsTo step f xs g → (k : ℕ) → k < length xs → get_or xs k v ≡ v
+filled step v f gives [] g runs k l = absurd (omega arith)
+filled step v f gives (x ∷ xs) g (h, r, runs) zero l = (gives x h r).1
+filled {F} step v f gives (x ∷ xs) g (h, r, runs) (suc k) l =
+    filled step v f gives xs g (subst (λ (e : F). FoldsTo step e xs g) (gives x h r).0 runs) k (omega arith)

@@ -1,52 +1,83 @@
--- Marks and a row of costs, as a list of what is known.
-use Rattle.std.proofs.Common.{◌≡◌, ℕ, zero, suc, ◌<◌, ◌≤◌, Bool, true, false, List, [], ◌∷◌, length, get_or, set, Some, None, Option, sym, refl, ap, ◌∙◌, arith}
-use Rattle.plan.proofs.Paired.{get_or-paired}
-use Rattle.measure.specs.Settling.{cost_if, near_of}
+-- What is known of each relay, as a list of costs and a list of marks.
+use Rattle.std.proofs.Common.{◌≡◌, ℕ, zero, suc, ◌<◌, ◌≤◌, false, List, [], ◌∷◌, length, get_or, set, replicate, Some, None, sym, refl, ap, ◌∙◌, arith}
+use Rattle.std.proofs.Math.ListN.{get_or-map}
+use Rattle.std.proofs.Math.Seq.{map-set_same}
+use Rattle.std.proofs.lemmas.List.{map-set, set-get_or, length-map}
+use Rattle.std.proofs.lemmas.Option.{none-some, same_Some}
+use Rattle.plan.proofs.Paired.{getD_paired}
+use Rattle.measure.specs.declared.mark.Mark.{Mark}
+use Rattle.measure.specs.declared.mark.Mark.TheVariants.{Unknown, Open, Settled}
+use Rattle.measure.specs.Settling.{Reach, Unreached, reach_of, reaches_of, known_cost, is_settled, near_of, settled_of}
 
 module _ {C : Type 0} where
-  none_some : (c : C) → None ≡ Some c → ⊥
-  none_some c q = let z : ◌≡◌ {A = ℕ} 0 1 = cc in omega arith
+  module _ (reaches : List (Reach C)) where
+    pub near_size : length (near_of reaches) ≡ length reaches
+    near_size = length-map reaches known_cost
 
-  some_same : (b c : C) → Some b ≡ Some c → b ≡ c
-  some_same b c q = cc
+    pub settled_size : length (settled_of reaches) ≡ length reaches
+    settled_size = length-map reaches is_settled
 
-  pub near_size : (known : List Bool) (row : List C) → length row ≤ length known → length (near_of known row) ≡ length row
-  near_size [] [] h = refl
-  near_size [] (c ∷ row) h = absurd (omega arith)
-  near_size (k ∷ known) [] h = refl
-  near_size (k ∷ known) (c ∷ row) h = let less : length row ≤ length known = omega arith in ap suc (near_size known row less)
+    pub near_at : (x : ℕ) → get_or (near_of reaches) x None ≡ known_cost (get_or reaches x Unreached)
+    near_at x = get_or-map known_cost reaches x Unreached
 
-  pub near_within : (known : List Bool) (row : List C) (x : ℕ) → x < length known → x < length row → x < length (near_of known row)
-  near_within [] row x h l = absurd (omega arith)
-  near_within (k ∷ known) [] x h l = absurd (omega arith)
-  near_within (k ∷ known) (c ∷ row) zero h l = omega arith
-  near_within (k ∷ known) (c ∷ row) (suc x) h l = let more : x < length (near_of known row) = near_within known row x (omega arith) (omega arith) in omega arith
+    pub settled_at : (x : ℕ) → get_or (settled_of reaches) x false ≡ is_settled (get_or reaches x Unreached)
+    settled_at x = get_or-map is_settled reaches x Unreached
 
-  pub near_set : (known : List Bool) (row : List C) (x : ℕ) (c : C) → near_of (set known x true) (set row x c) ≡ set (near_of known row) x (Some c)
-  near_set [] [] x c = refl
-  near_set [] (d ∷ row) x c = refl
-  near_set (k ∷ known) [] zero c = refl
-  near_set (k ∷ known) [] (suc x) c = refl
-  near_set (k ∷ known) (d ∷ row) zero c = refl
-  near_set (k ∷ known) (d ∷ row) (suc x) c = ap (λ (rest : List (Option C)). cost_if k d ∷ rest) (near_set known row x c)
+    module _ (x : ℕ) (r : Reach C) where
+      pub near_set : near_of (set reaches x r) ≡ set (near_of reaches) x (known_cost r)
+      near_set = map-set known_cost reaches x r
 
-  pub near_value : (known : List Bool) (row : List C) (x : ℕ) (c d : C) → get_or (near_of known row) x None ≡ Some c → get_or row x d ≡ c
-  near_value [] row x c d e = absurd (none_some c e)
-  near_value (k ∷ known) [] x c d e = absurd (none_some c e)
-  near_value (true ∷ known) (b ∷ row) zero c d e = some_same b c e
-  near_value (false ∷ known) (b ∷ row) zero c d e = absurd (none_some c e)
-  near_value (k ∷ known) (b ∷ row) (suc x) c d e = near_value known row x c d e
+      pub settled_set : settled_of (set reaches x r) ≡ set (settled_of reaches) x (is_settled r)
+      settled_set = map-set is_settled reaches x r
 
-  pub near_none : (known : List Bool) (row : List C) → ((x : ℕ) → get_or known x false ≡ false) → (x : ℕ) → get_or (near_of known row) x None ≡ None
-  near_none [] row h x = refl
-  near_none (k ∷ known) [] h x = refl
-  near_none (k ∷ known) (c ∷ row) h zero = ap (λ (b : Bool). cost_if b c) (h 0)
-  near_none (k ∷ known) (c ∷ row) h (suc x) = near_none known row (λ y. h (suc y)) x
+      -- what is known is not changed, or the mark
+      pub near_same : known_cost r ≡ known_cost (get_or reaches x Unreached) → near_of (set reaches x r) ≡ near_of reaches
+      near_same = map-set_same known_cost reaches x r Unreached
 
-  -- what the code reads at x
-  module _ (known : List Bool) (row : List C) (x : ℕ) (in_known : x < length known) (in_row : x < length row) where
-    pub read_known : (c : C) → get_or known x false ≡ true → c ≡ get_or row x c → Some c ≡ get_or (near_of known row) x None
-    read_known c e r = sym (get_or-paired cost_if known row x false c None in_known in_row ∙ ap (λ (b : Bool). cost_if b (get_or row x c)) e ∙ ap Some (sym r))
+      pub settled_same : is_settled r ≡ is_settled (get_or reaches x Unreached) → settled_of (set reaches x r) ≡ settled_of reaches
+      settled_same = map-set_same is_settled reaches x r Unreached
 
-    pub read_unknown : (c : C) → get_or known x false ≡ false → None ≡ get_or (near_of known row) x None
-    read_unknown c e = sym (get_or-paired cost_if known row x false c None in_known in_row ∙ ap (λ (b : Bool). cost_if b (get_or row x c)) e)
+  -- marks and a row, side by side
+  pub reaches_size : (marks : List Mark) (row : List C) → length row ≤ length marks → length (reaches_of marks row) ≡ length row
+  reaches_size [] [] h = refl
+  reaches_size [] (c ∷ row) h = absurd (omega arith)
+  reaches_size (m ∷ marks) [] h = refl
+  reaches_size (m ∷ marks) (c ∷ row) h = let fewer : length row ≤ length marks = omega arith in ap suc (reaches_size marks row fewer)
+
+  pub reaches_within : (marks : List Mark) (row : List C) (x : ℕ) → x < length marks → x < length row → x < length (reaches_of marks row)
+  reaches_within [] row x h l = absurd (omega arith)
+  reaches_within (m ∷ marks) [] x h l = absurd (omega arith)
+  reaches_within (m ∷ marks) (c ∷ row) zero h l = omega arith
+  reaches_within (m ∷ marks) (c ∷ row) (suc x) h l = let more : x < length (reaches_of marks row) = reaches_within marks row x (omega arith) (omega arith) in omega arith
+
+  pub reaches_at : (marks : List Mark) (row : List C) (x : ℕ) (d : C) → x < length marks → x < length row
+      → get_or (reaches_of marks row) x Unreached ≡ reach_of (get_or marks x Unknown) (get_or row x d)
+  reaches_at marks row x d h l = getD_paired reach_of marks row x Unknown d Unreached h l
+
+  pub reaches_set : (marks : List Mark) (row : List C) (x : ℕ) (m : Mark) (c : C)
+      → reaches_of (set marks x m) (set row x c) ≡ set (reaches_of marks row) x (reach_of m c)
+  reaches_set [] [] x m c = refl
+  reaches_set [] (d ∷ row) x m c = refl
+  reaches_set (k ∷ marks) [] zero m c = refl
+  reaches_set (k ∷ marks) [] (suc x) m c = refl
+  reaches_set (k ∷ marks) (d ∷ row) zero m c = refl
+  reaches_set (k ∷ marks) (d ∷ row) (suc x) m c = ap (λ (rest : List (Reach C)). reach_of k d ∷ rest) (reaches_set marks row x m c)
+
+  -- only a mark is set
+  pub mark_set : (marks : List Mark) (row : List C) (x : ℕ) (m : Mark) (d : C) → reaches_of (set marks x m) row ≡ set (reaches_of marks row) x (reach_of m (get_or row x d))
+  mark_set marks row x m d = ap (λ (cs : List C). reaches_of (set marks x m) cs) (sym (set-get_or row x d)) ∙ reaches_set marks row x m (get_or row x d)
+
+  -- where no mark is set nothing is known
+  pub reaches_none : (n : ℕ) (row : List C) (x : ℕ) → get_or (reaches_of (replicate n Unknown) row) x Unreached ≡ Unreached
+  reaches_none zero row x = refl
+  reaches_none (suc n) [] x = refl
+  reaches_none (suc n) (c ∷ row) zero = refl
+  reaches_none (suc n) (c ∷ row) (suc x) = reaches_none n row x
+
+  pub known_read : (marks : List Mark) (row : List C) (x : ℕ) (c d : C) → known_cost (get_or (reaches_of marks row) x Unreached) ≡ Some c → get_or row x d ≡ c
+  known_read [] row x c d e = absurd (none-some c e)
+  known_read (m ∷ marks) [] x c d e = absurd (none-some c e)
+  known_read (Unknown ∷ marks) (b ∷ row) zero c d e = absurd (none-some c e)
+  known_read (Open ∷ marks) (b ∷ row) zero c d e = same_Some b c e
+  known_read (Settled ∷ marks) (b ∷ row) zero c d e = same_Some b c e
+  known_read (m ∷ marks) (b ∷ row) (suc x) c d e = known_read marks row x c d e

@@ -3,10 +3,10 @@ pub mod Chains
 pub mod Metric
 pub mod Known
 pub mod Chaining
+pub mod Linking
 pub mod Relaxing
 pub mod Settled
 pub mod Stepping
 pub mod Cells
-pub mod Checking
 pub mod Measures
 pub mod Three

@@ -1,7 +1,7 @@
 -- A plan in which the cheapest walk takes more links than the shortest.
 use Rattle.std.specs.Prelude.{ℕ, [], ◌∷◌}
 use Rattle.kind.specs.declared.paid.Paid.{Paid}
-use Rattle.kind.specs.Kinds.{free, paid, both_paid, Cheaper}
+use Rattle.kind.specs.Kinds.{paid, paid_kind}
 use Rattle.plan.specs.Plan.{Plan, relay, link}
 use Rattle.measure.specs.Distance.{Distance, Next}
 
@@ -15,5 +15,5 @@ three = record {
 
 -- from relay 30 to relay 32 it costs c, by way of relay r
 pub record FromFirstToLast (c : Paid) (r : ℕ) : Type 0 where
-  pub distance : Distance free both_paid Cheaper three 0 2 c
-  pub next : Next free both_paid Cheaper three 0 2 r
+  pub distance : Distance paid_kind three 0 2 c
+  pub next : Next paid_kind three 0 2 r

@@ -5,9 +5,9 @@ use Rattle.std.specs.Prelude.{ℕ, ◌+◌, ◌*◌, ◌<◌, ◌≤◌, List, l
 abbrev pub cell_of : ℕ → ℕ → ℕ → ℕ
 cell_of side row column = row * side + column
 
--- the pair has a cell, and the list is long enough to hold it
-abbrev pub HasCell : {V : Type 0} → ℕ → List V → ℕ → ℕ → Type 0
-HasCell side cells row column = (row < side) × (column < side) × (cell_of side row column < length cells)
+-- the pair has a cell, and a list of so many cells is long enough to hold it
+abbrev pub HasCell : ℕ → ℕ → ℕ → ℕ → Type 0
+HasCell side cells row column = (row < side) × (column < side) × (cell_of side row column < cells)
 
 -- the value of a pair of numbers below the side, and d where the list is too short for it
 abbrev pub in_square : {V : Type 0} → V → ℕ → List V → ℕ → ℕ → V

@@ -5,18 +5,11 @@ ghost use Rattle.measure.specs.Metric.{Metric};
 
 use kind::Cost;
 
-fn all_but_one(relays: u16) -> u16
-    ensures { result ≡ relays - 1 }
-{
-    relays.saturating_sub(1)
-}
-
-// In a plan of so many relays every distance is a sum of at most this many link costs.
-// The distance of a sound plan is a metric.
+/// In a plan of so many relays every distance is a sum of at most this many link costs.
+/// The distance of a sound plan is a metric.
 pub fn most_hops<C: Cost>(relays: u16) -> u16
     ensures value { result ≡ relays - 1 }
-    ensures metric { (p : Plan C) → Sound C.Cost.link p
-        → Metric C.Cost.none C.Cost.plus C.Cost.less C.Cost.link p }
+    ensures metric { (p : Plan C) → Sound C.kind p → Metric C.kind p }
 {
-    all_but_one(relays)
+    relays.saturating_sub(1)
 }

@@ -1,61 +1,43 @@
-ghost use Rattle.std.specs.Prelude.{◌≡◌, ◌+◌, ◌<◌, ◌≤◌, length, slice_index};
-ghost use Rattle.plan.specs.Reach.{Within};
-ghost use Rattle.measure.specs.Incidence.{Skips, Incident};
+ghost use Rattle.std.specs.Prelude.{◌≤◌, length};
+ghost use Rattle.plan.specs.Plan.{ends_of};
+ghost use Rattle.plan.specs.Sound.{AreRelays};
+ghost use Rattle.measure.specs.Incidence.{Incident};
 
-use plan::Ends;
+use kind::Cost;
+use plan::{MOST_LINKS, MOST_RELAYS, PlanView};
 
-// The links of each relay, in rising order: the first of them, and after each link the next one at its `from` and at its `to`.
-// Where no link is left, the number of links stands in its place.
+// The links of each relay, in rising order: the first of them,
+// and after each link the next one at its `from` and at its `to`.
+// Where no link is left stands the number of links, and no `Option`: `get` at that number gives
+// none by itself, so an option would ask twice, which is no plainer.
+// Fixed memory: a list of links for each relay would need a heap.
 #[derive(Drop)]
 pub(crate) struct Incidence {
-    first: [u16; 256],
-    from: [u16; 1024],
-    to: [u16; 1024],
+    pub(crate) first: [u16; MOST_RELAYS],
+    pub(crate) from: [u16; MOST_LINKS],
+    pub(crate) to: [u16; MOST_LINKS],
 }
 
 impl Incidence {
     // The links of each relay, entered from the last link to the first.
-    pub(crate) fn new(ends: &[Ends]) -> Incidence
-        requires within { Within ends.now 256 }
-        requires few { length ends.now ≤ 1024 }
-        ensures { Incident ends.now result }
+    pub(crate) fn new<C: Cost>(plan: &PlanView<C>) -> Incidence
+        requires tied { AreRelays plan.now }
+        requires few { length plan.now.relays ≤ 256 }
+        ensures incident { Incident (ends_of plan.now) result }
+        ensures sparse { length plan.now.links ≤ 1024 }
     {
-        let links = ends.len();
-        let mut first = [links as u16; 256];
-        let mut from = [0; 1024];
-        let mut to = [0; 1024];
-        for k in (0..links).rev() {
-            let (u, v) = (usize::from(ends[k].from), usize::from(ends[k].to));
+        let links = plan.link_count();
+        let ends = plan.ends();
+        let mut first = [links as u16; MOST_RELAYS];
+        let mut from = [0; MOST_LINKS];
+        let mut to = [0; MOST_LINKS];
+        for (k, pair) in ends.iter().enumerate().rev() {
+            let (u, v) = (usize::from(pair.from), usize::from(pair.to));
             from[k] = first[u];
             to[k] = first[v];
             first[u] = k as u16;
             first[v] = k as u16;
         }
         Incidence { first, from, to }
-    }
-
-    // The first link of the relay; the number of links if it has none.
-    pub(crate) fn first(&self, at: usize) -> usize
-        requires { at < 256 }
-        ensures { result ≡ slice_index self.now.first at }
-    {
-        usize::from(self.first[at])
-    }
-
-    // The next link of the relay after its link k; the number of links if there is none.
-    // After a link that does not end at the relay, simply the next place.
-    pub(crate) fn after(&self, ends: &[Ends], at: usize, k: usize) -> usize
-        requires all { Incident ends.now self.now }
-        requires few { length ends.now ≤ 1024 }
-        requires link { k < length ends.now }
-        ensures { Skips ends.now at (k + 1) result }
-    {
-        if usize::from(ends[k].from) == at {
-            usize::from(self.from[k])
-        } else if usize::from(ends[k].to) == at {
-            usize::from(self.to[k])
-        } else {
-            k + 1
-        }
     }
 }

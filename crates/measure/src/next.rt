@@ -1,76 +1,54 @@
-ghost use Rattle.std.specs.Prelude.{◌≡◌, ℕ, ◌*◌, ◌<◌, ◌≤◌, length, Decides, slice_index};
-ghost use Rattle.measure.specs.Settling.{Firm, Toward};
-ghost use Rattle.measure.specs.Incidence.{Incident};
+ghost use Rattle.std.specs.Prelude.{◌≡◌, ℕ, ◌*◌, ◌<◌, ◌≤◌, IsTrue, ◌↔◌, length, slice_index};
+ghost use Rattle.measure.specs.Settling.{IsSquareOf, Toward};
 
-use crate::incidence::Incidence;
-use crate::spread::across;
-use crate::square::cell;
+use crate::graph::Graph;
+use crate::square::Square;
 use kind::Cost;
-use plan::Ends;
 
 // Whether the link and the rest cost as much as the whole.
 fn adds_up<C: Cost>(whole: C, over: C, rest: C) -> bool
-    ensures { Decides result (whole ≡ C.Cost.adds over rest) }
+    ensures { IsTrue result ↔ (whole ≡ C.kind.adds over rest) }
 {
-    whole.compare(over.add(rest)).is_eq()
+    whole == over + rest
 }
 
 // The lowest relay that comes next on a cheapest walk; `from` itself if the distances show none.
-fn next_toward<C: Cost>(
-    ends: &[Ends],
-    costs: &[C],
-    incidence: &Incidence,
-    relays: usize,
-    distances: &[C],
-    from: usize,
-    to: usize,
-) -> usize
-    requires firm { Firm ends.now costs.now relays }
-    requires incident { Incident ends.now incidence.now }
-    requires square { relays * relays ≤ length distances.now }
-    requires inside { from < relays }
-    requires target { to < relays }
-    ensures relay { result < relays }
-    ensures toward { Toward C.Cost.none C.Cost.adds ends.now costs.now relays distances.now from to
-        result }
+fn next_toward<C: Cost>(graph: &Graph<C>, distances: &Square<C>, from: usize, to: usize) -> usize
+    requires square { IsSquareOf graph.now distances.now }
+    requires inside { from < graph.now.relays }
+    requires target { to < graph.now.relays }
+    ensures relay { result < graph.now.relays }
+    ensures toward { Toward C.kind graph.now distances.now.cells.now from to result }
 {
     if from == to {
         return from;
     }
-    let whole = distances[cell(relays, from, to)];
-    let mut lowest = relays;
-    let mut k = incidence.first(from);
-    while k < ends.len() {
-        if let Some(x) = across(ends[k], from) {
-            if adds_up(whole, costs[k], distances[cell(relays, x, to)]) {
-                lowest = lowest.min(x);
-            }
+    let whole = distances.entry(from, to);
+    let mut lowest: Option<usize> = None;
+    // A loop: the closures of a chain would owe that each link leads to a relay,
+    // which a chain's clauses do not carry.
+    for link in graph.links_at(from) {
+        if adds_up(whole, link.cost, distances.entry(link.relay, to)) {
+            lowest = Some(link.relay.min(lowest.unwrap_or(link.relay)));
         }
-        k = incidence.after(ends, from, k);
     }
-    if lowest < relays { lowest } else { from }
+    lowest.unwrap_or(from)
 }
 
 // Fills the row with the next relay toward each relay.
 pub(crate) fn nexts_from<C: Cost>(
-    ends: &[Ends],
-    costs: &[C],
-    incidence: &Incidence,
-    relays: usize,
-    distances: &[C],
+    graph: &Graph<C>,
+    distances: &Square<C>,
     from: usize,
     row: &mut [u16],
 )
-    requires firm { Firm ends.now costs.now relays }
-    requires incident { Incident ends.now incidence.now }
-    requires square { relays * relays ≤ length distances.now }
-    requires inside { from < relays }
-    requires size { length row.old ≡ relays }
-    ensures { (x : ℕ) → x < relays
-        → Toward C.Cost.none C.Cost.adds ends.now costs.now relays distances.now from x
-        (slice_index row.new x) }
+    requires square { IsSquareOf graph.now distances.now }
+    requires inside { from < graph.now.relays }
+    requires size { length row.old ≡ graph.now.relays }
+    ensures { (x : ℕ) → x < graph.now.relays
+        → Toward C.kind graph.now distances.now.cells.now from x (slice_index row.new x) }
 {
-    for x in 0..relays {
-        row[x] = next_toward(ends, costs, incidence, relays, distances, from, x) as u16;
+    for (x, next) in row.iter_mut().enumerate() {
+        *next = next_toward(graph, distances, from, x) as u16;
     }
 }

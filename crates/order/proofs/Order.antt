@@ -3,8 +3,9 @@ use Rattle.std.proofs.Common.{◌≡◌, ℕ, zero, suc, ◌<◌, ◌≤◌, ◌
 use Rattle.std.specs.List.{ContainsAt}
 use Rattle.std.proofs.ByRecursion.{All-get_or, has_get_or}
 use Rattle.std.proofs.lemmas.Bool.{cases_eq, cases_lt, cases_order}
-use Rattle.kind.specs.Laws.{Laws, AtMost}
-use Rattle.kind.proofs.Sums.{grows_left, le-less, le_split}
+use Rattle.kind.specs.Laws.{Laws, AtMost, CostKind, IsLess, IsLink}
+use Rattle.kind.proofs.Sums.{grows_left, le-less, le_split, compared}
+use Rattle.kind.proofs.Sums as costs
 use Rattle.plan.specs.Plan.{Plan, relay, colour_of}
 use Rattle.plan.specs.Walk.{Linked}
 use Rattle.plan.specs.Sound.{Sound, IsColour, ColourUsed}
@@ -15,28 +16,28 @@ use Rattle.order.specs.Seen as s
 use Rattle.order.specs.Seen.{Met, BallSize, Covers}
 use Rattle.order.proofs.Places.{lacks, no_two, place_of}
 
-module _ {C : Type 0} {none : C} {plus : C → C → C} {less : C → C → Type 0} {link : C → Type 0} {adds : C → C → C}
-    (laws : Laws none plus less link adds) (D : ℕ → ℕ → C) where
-  before_strict : (u x : ℕ) → s.Before less D u x x → ⊥
-  before_strict u x (inl h) = laws.strict (D u x) h
+module _ {C : Type 0} {K : CostKind C}
+    (laws : Laws K) (D : ℕ → ℕ → C) where
+  before_strict : (u x : ℕ) → s.Before K D u x x → ⊥
+  before_strict u x (inl h) = costs.strict laws (D u x) h
   before_strict u x (inr h) = omega (arith, h.1)
 
-  pub before_trans : (u x y z : ℕ) → s.Before less D u x y → s.Before less D u y z → s.Before less D u x z
-  before_trans u x y z (inl h) (inl k) = inl (laws.trans _ _ _ h k)
-  before_trans u x y z (inl h) (inr k) = inl (subst (λ (c : C). less (D u x) c) k.0 h)
-  before_trans u x y z (inr h) (inl k) = inl (subst (λ (c : C). less c (D u z)) (sym h.0) k)
+  pub before_trans : (u x y z : ℕ) → s.Before K D u x y → s.Before K D u y z → s.Before K D u x z
+  before_trans u x y z (inl h) (inl k) = inl (laws.order.trans _ _ _ h k)
+  before_trans u x y z (inl h) (inr k) = inl (subst (λ (c : C). IsLess K (D u x) c) k.0 h)
+  before_trans u x y z (inr h) (inl k) = inl (subst (λ (c : C). IsLess K c (D u z)) (sym h.0) k)
   before_trans u x y z (inr h) (inr k) = inr (h.0 ∙ k.0, omega (arith, h.1, k.1))
 
-module _ {C : Type 0} {none : C} {plus : C → C → C} {less : C → C → Type 0} {link : C → Type 0} {adds : C → C → C}
-    (laws : Laws none plus less link adds) (p : Plan C) (D : ℕ → ℕ → C) where
+module _ {C : Type 0} {K : CostKind C}
+    (laws : Laws K) (p : Plan C) (D : ℕ → ℕ → C) where
   abbrev Before : ℕ → ℕ → ℕ → Type 0
-  Before u x y = s.Before less D u x y
+  Before u x y = s.Before K D u x y
 
   abbrev InBall : ℕ → ℕ → Type 0
-  InBall u x = s.InBall less D p u x
+  InBall u x = s.InBall K D p u x
 
   abbrev Manager : ℕ → ℕ → ℕ → Type 0
-  Manager u c m = s.Manager less D p u c m
+  Manager u c m = s.Manager K D p u c m
 
   pub strict : (u x : ℕ) → Before u x x → ⊥
   strict = before_strict laws D
@@ -45,9 +46,9 @@ module _ {C : Type 0} {none : C} {plus : C → C → C} {less : C → C → Type
   order_trans = before_trans laws D
 
   pub order_compared : (u x y : ℕ) → Before u x y ⊎ ((x ≡ y) ⊎ Before u y x)
-  order_compared u x y = by (laws.compared (D u x) (D u y)) (cases_order x y)
+  order_compared u x y = by (compared laws (D u x) (D u y)) (cases_order x y)
     where
-      by : less (D u x) (D u y) ⊎ ((D u x ≡ D u y) ⊎ less (D u y) (D u x)) → (x ≡ y) ⊎ ((x < y) ⊎ (y < x)) → Before u x y ⊎ ((x ≡ y) ⊎ Before u y x)
+      by : IsLess K (D u x) (D u y) ⊎ ((D u x ≡ D u y) ⊎ IsLess K (D u y) (D u x)) → (x ≡ y) ⊎ ((x < y) ⊎ (y < x)) → Before u x y ⊎ ((x ≡ y) ⊎ Before u y x)
       by (inl l) n = inl (inl l)
       by (inr (inr l)) n = inr (inr (inl l))
       by (inr (inl e)) (inl f) = inr (inl f)
@@ -57,7 +58,7 @@ module _ {C : Type 0} {none : C} {plus : C → C → C} {less : C → C → Type
   pub manager_near : (u c m : ℕ) → IsColour p.colours c → Manager u c m → InBall u m
   manager_near u c m h k = record { is_relay = k.is_relay; colour = c; is_colour = h; none_before = k.none_before }
 
-  pub nearest : (u c m y : ℕ) → Manager u c m → y < length p.relays → colour_of p y ≡ c → AtMost less (D u m) (D u y)
+  pub nearest : (u c m y : ℕ) → Manager u c m → y < length p.relays → colour_of p y ≡ c → AtMost K (D u m) (D u y)
   nearest u c m y h k e l = h.none_before y k e (inl l)
 
   pub manager_same : (u c m l : ℕ) → Manager u c m → Manager u c l → m ≡ l
@@ -68,7 +69,7 @@ module _ {C : Type 0} {none : C} {plus : C → C → C} {less : C → C → Type
       by (inr (inl e)) = e
       by (inr (inr b)) = absurd (h.none_before l k.is_relay k.coloured b)
 
-  pub inside : (u x y : ℕ) → InBall u x → y < length p.relays → (InBall u y → ⊥) → AtMost less (D u x) (D u y)
+  pub inside : (u x y : ℕ) → InBall u x → y < length p.relays → (InBall u y → ⊥) → AtMost K (D u x) (D u y)
   inside u x y h is out l = out (record {
     is_relay = is;
     colour = h.colour;
@@ -110,7 +111,7 @@ module _ {C : Type 0} {none : C} {plus : C → C → C} {less : C → C → Type
         by (inr (m, (k, e, clear))) = (m, record { is_relay = k; coloured = e; none_before = clear })
 
   -- as many relays as the size tells are the ball
-  pub ball_from : (u b : ℕ) (zs : List ℕ) → s.Order less D p u zs → BallSize (colour_of p) p.colours zs b → s.Ball less D p u (take b zs)
+  pub ball_from : (u b : ℕ) (zs : List ℕ) → s.Order K D p u zs → BallSize (colour_of p) p.colours zs b → s.Ball K D p u (take b zs)
   ball_from u b zs o size =
       let long : length (take b zs) ≡ b = length-take-le b zs size.within in
       record {
@@ -121,12 +122,12 @@ module _ {C : Type 0} {none : C} {plus : C → C → C} {less : C → C → Type
       }
 
   -- every relay has a place in the order
-  pub place : (u : ℕ) (zs : List ℕ) → s.Order less D p u zs → (y : ℕ) → y < length p.relays → (i : ℕ) × (i < length zs) × (get_or zs i 0 ≡ y)
+  pub place : (u : ℕ) (zs : List ℕ) → s.Order K D p u zs → (y : ℕ) → y < length p.relays → (i : ℕ) × (i < length zs) × (get_or zs i 0 ≡ y)
   place u zs o y l = place_of (length p.relays) zs o.count o.relays
       (no_two zs (λ i j h m e. strict u (get_or zs i 0) (subst (λ (z : ℕ). Before u (get_or zs i 0) z) (sym e) (o.sorted i j h m)))) y l
 
   -- who stands before the relay at place i stands at a lower place
-  pub lower : (u : ℕ) (zs : List ℕ) → s.Order less D p u zs → (i j : ℕ) → i < length zs → j < length zs → Before u (get_or zs j 0) (get_or zs i 0) → j < i
+  pub lower : (u : ℕ) (zs : List ℕ) → s.Order K D p u zs → (i j : ℕ) → i < length zs → j < length zs → Before u (get_or zs j 0) (get_or zs i 0) → j < i
   lower u zs o i j h k b = by (cases_order j i)
     where
       by : (j ≡ i) ⊎ ((j < i) ⊎ (i < j)) → j < i
@@ -134,7 +135,7 @@ module _ {C : Type 0} {none : C} {plus : C → C → C} {less : C → C → Type
       by (inr (inl l)) = l
       by (inr (inr l)) = absurd (strict u (get_or zs i 0) (order_trans u _ _ _ (o.sorted i j l k) b))
 
-  module _ (u b : ℕ) (zs : List ℕ) (o : s.Order less D p u zs) (size : BallSize (colour_of p) p.colours zs b) (i : ℕ) (h : i < length zs) where
+  module _ (u b : ℕ) (zs : List ℕ) (o : s.Order K D p u zs) (size : BallSize (colour_of p) p.colours zs b) (i : ℕ) (h : i < length zs) where
     into : i < b → InBall u (get_or zs i 0)
     into l = by (lacks (colour_of p) zs i p.colours)
       where
@@ -163,7 +164,7 @@ module _ {C : Type 0} {none : C} {plus : C → C → C} {less : C → C → Type
             absurd (ball.none_before (get_or zs j 0) (All-get_or (λ z. z < length p.relays) zs j 0 k o.relays) e
             (o.sorted j i (omega (arith, m, l)) h))
 
-  pub members : (u : ℕ) (xs : List ℕ) → s.Ball less D p u xs → (x : ℕ) → InBall u x ↔ ContainsAt xs x
+  pub members : (u : ℕ) (xs : List ℕ) → s.Ball K D p u xs → (x : ℕ) → InBall u x ↔ ContainsAt xs x
   members u xs ball x = subst (λ (ys : List ℕ). InBall u x ↔ ContainsAt ys x) (sym ball.begins) (there, back)
     where
       zs : List ℕ
@@ -187,44 +188,44 @@ module _ {C : Type 0} {none : C} {plus : C → C → C} {less : C → C → Type
           subst (λ (y : ℕ). InBall u y) (sym (get_or-take b zs i 0 m) ∙ at 0)
           (into u b zs ball.seen ball.size i (omega (arith, ball.size.within)) m)
 
-  module _ (sound : Sound link p) (distances : d.Distances none plus less p D) where
+  module _ (sound : Sound K p) (distances : d.Distances K p D) where
     pub first : (u y : ℕ) → u < length p.relays → y < length p.relays → Before u y u → ⊥
     first u y h k b = by b
       where
-        zero : D u u ≡ none
-        zero = (metric laws p sound).unique u u (D u u) none (distances u u h h) ((metric laws p sound).self u)
+        zero : D u u ≡ K.none
+        zero = (metric laws p sound).unique u u (D u u) K.none (distances u u h h) ((metric laws p sound).self u)
 
         by : Before u y u → ⊥
-        by (inl l) = laws.least (D u y) (subst (λ (c : C). less (D u y) c) zero l)
+        by (inl l) = laws.least (D u y) (subst (λ (c : C). IsLess K (D u y) c) zero l)
         by (inr e) =
-            let same : u ≡ y = (metric laws p sound).apart u y (subst (λ (c : C). d.Distance none plus less p u y c) (e.0 ∙ zero) (distances u y h k)) in
+            let same : u ≡ y = (metric laws p sound).apart u y (subst (λ (c : C). d.Distance K p u y c) (e.0 ∙ zero) (distances u y h k)) in
             omega (arith, e.1)
 
     pub travels : (u v r y : ℕ) → u < length p.relays → v < length p.relays → y < length p.relays → (u ≡ v → ⊥)
-        → d.Next none plus less p u v r → Before r y v → Before u y v
+        → d.Next K p u v r → Before r y v → Before u y v
     travels u v r y hu hv hy ne next b = by ((metric laws p sound).nearer u v r ne next (D u v) (distances u v hu hv))
       where
-        by : (w : C) × (e : C) × Linked p u r w × link w × d.Distance none plus less p r v e × (D u v ≡ plus w e) → Before u y v
+        by : (w : C) × (e : C) × Linked p u r w × IsLink K w × d.Distance K p r v e × (D u v ≡ K.plus w e) → Before u y v
         by (w, e, linked, lw, dist, is) = at b
           where
             hr : r < length p.relays
             hr = linked_to p sound u r w linked
 
-            from_u : D u v ≡ plus w (D r v)
-            from_u = is ∙ ap (plus w) ((metric laws p sound).unique r v e (D r v) dist (distances r v hr hv))
+            from_u : D u v ≡ K.plus w (D r v)
+            from_u = is ∙ ap (K.plus w) ((metric laws p sound).unique r v e (D r v) dist (distances r v hr hv))
 
-            far : d.Distance none plus less p r y (D r y)
+            far : d.Distance K p r y (D r y)
             far = distances r y hr hy
 
-            near : AtMost less (D u y) (plus w (D r y))
-            near = subst (λ (c : C). AtMost less (D u y) (plus w c)) far.costs
+            near : AtMost K (D u y) (K.plus w (D r y))
+            near = subst (λ (c : C). AtMost K (D u y) (K.plus w c)) far.costs
                 ((distances u y hu hy).least (record { hops = record { cost = w; to = r } ∷ far.walk.hops; chain = (linked, far.walk.chain) }))
 
             at : Before r y v → Before u y v
-            at (inl l) = inl (le-less laws _ _ _ near (subst (λ (c : C). less (plus w (D r y)) c) (sym from_u) (grows_left laws _ _ w l)))
-            at (inr (f, l)) = split (le_split laws _ _ (subst (λ (c : C). AtMost less (D u y) c) (ap (plus w) f ∙ sym from_u) near))
+            at (inl l) = inl (le-less laws _ _ _ near (subst (λ (c : C). IsLess K (K.plus w (D r y)) c) (sym from_u) (grows_left laws _ _ w l)))
+            at (inr (f, l)) = split (le_split laws _ _ (subst (λ (c : C). AtMost K (D u y) c) (ap (K.plus w) f ∙ sym from_u) near))
               where
-                split : less (D u y) (D u v) ⊎ (D u y ≡ D u v) → Before u y v
+                split : IsLess K (D u y) (D u v) ⊎ (D u y ≡ D u v) → Before u y v
                 split (inl m) = inl m
                 split (inr m) = inr (m, l)
 
@@ -234,7 +235,7 @@ module _ {C : Type 0} {none : C} {plus : C → C → C} {less : C → C → Type
     pub centre : (u : ℕ) → u < length p.relays → InBall u u
     centre u h = manager_near u (colour_of p u) u (All-get_or (λ r. IsColour p.colours r.colour) p.relays u (relay 0 0) h sound.colours) (own u h)
 
-    pub monotone : (u v r : ℕ) → u < length p.relays → (u ≡ v → ⊥) → d.Next none plus less p u v r → InBall u v → InBall r v
+    pub monotone : (u v r : ℕ) → u < length p.relays → (u ≡ v → ⊥) → d.Next K p u v r → InBall u v → InBall r v
     monotone u v r hu ne next h = record {
       is_relay = h.is_relay;
       colour = h.colour;
@@ -242,19 +243,19 @@ module _ {C : Type 0} {none : C} {plus : C → C → C} {less : C → C → Type
       none_before = λ y hy e b. h.none_before y hy e (travels u v r y hu h.is_relay hy ne next b);
     }
 
-    pub persists : (u c m r : ℕ) → u < length p.relays → (u ≡ m → ⊥) → d.Next none plus less p u m r → Manager u c m → Manager r c m
+    pub persists : (u c m r : ℕ) → u < length p.relays → (u ≡ m → ⊥) → d.Next K p u m r → Manager u c m → Manager r c m
     persists u c m r hu ne next h = record {
       is_relay = h.is_relay;
       coloured = h.coloured;
       none_before = λ y hy e b. h.none_before y hy e (travels u m r y hu h.is_relay hy ne next b);
     }
 
-    pub next_relay : (u v r : ℕ) → u < length p.relays → d.Next none plus less p u v r → r < length p.relays
+    pub next_relay : (u v r : ℕ) → u < length p.relays → d.Next K p u v r → r < length p.relays
     next_relay u v r h (inl (e, f)) = omega (arith, f)
     next_relay u v r h (inr (ne, step, lowest)) = linked_to p sound u r step.over step.chain.0
 
   -- The manager is the first relay of its colour in the order.
-  pub manager_is : (u c i : ℕ) (zs : List ℕ) → s.Order less D p u zs → i < length zs → colour_of p (get_or zs i 0) ≡ c
+  pub manager_is : (u c i : ℕ) (zs : List ℕ) → s.Order K D p u zs → i < length zs → colour_of p (get_or zs i 0) ≡ c
       → ((j : ℕ) → j < i → colour_of p (get_or zs j 0) ≡ c → ⊥) → Manager u c (get_or zs i 0)
   manager_is u c i zs o h e none = record { is_relay = All-get_or (λ z. z < length p.relays) zs i 0 h o.relays; coloured = e; none_before = none_before }
     where

@@ -4,7 +4,7 @@ use Rattle.std.specs.List.{AllByRecursion}
 use Rattle.std.proofs.lemmas.List.{same_lists, get_or_default}
 use Rattle.std.proofs.ByRecursion.{All-get_or, All-weaker}
 use Rattle.std.proofs.lemmas.Bool.{cases_order}
-use Rattle.kind.specs.Laws.{Laws}
+use Rattle.kind.specs.Laws.{Laws, CostKind}
 use Rattle.plan.specs.Plan.{Plan, relay, colour_of}
 use Rattle.plan.specs.Sound.{IsColour, ColourUsed}
 use Rattle.order.specs.Seen as s
@@ -44,16 +44,16 @@ module _ (colouring : ℕ → ℕ) (k : ℕ) (zs : List ℕ) where
       by (inr (inl l)) = absurd (m.least a l h.covers)
       by (inr (inr l)) = absurd (h.least b l m.covers)
 
-module _ {C : Type 0} {none : C} {plus : C → C → C} {less : C → C → Type 0} {link : C → Type 0} {adds : C → C → C}
-    (laws : Laws none plus less link adds) (p : Plan C) (D : ℕ → ℕ → C) (u : ℕ) where
+module _ {C : Type 0} {K : CostKind C}
+    (laws : Laws K) (p : Plan C) (D : ℕ → ℕ → C) (u : ℕ) where
   abbrev Before : ℕ → ℕ → Type 0
-  Before x y = s.Before less D u x y
+  Before x y = s.Before K D u x y
 
   abbrev Order : List ℕ → Type 0
-  Order zs = s.Order less D p u zs
+  Order zs = s.Order K D p u zs
 
   abbrev Ball : List ℕ → Type 0
-  Ball xs = s.Ball less D p u xs
+  Ball xs = s.Ball K D p u xs
 
   -- two orders that agree before place k do not differ there
   module _ (xs ys : List ℕ) (ox : Order xs) (oy : Order ys) where

@@ -1,10 +1,10 @@
 -- The two worked examples.
-use Rattle.std.proofs.Common.{◌≡◌, ℕ, List, [], ◌∷◌, sym, refl, subst, arith}
+use Rattle.std.proofs.Common.{[], ◌∷◌, refl, arith}
 use Rattle.order.specs.Examples.{line, line_delays, SeenFromTwelve, fork, fork_delays, SeenFromTwenty}
 use Rattle.order.proofs.Settle.{ticks_of, with_distances, ball_is, manager_at}
 
-twelve : SeenFromTwelve (12 ∷ 11 ∷ 13 ∷ []) 13
-twelve = record {
+pub seen_from_twelve : SeenFromTwelve (12 ∷ 11 ∷ 13 ∷ []) 13
+seen_from_twelve = record {
   distances = with_distances line (ticks_of line_delays) refl refl;
   balls = record {
     centre = 2;
@@ -22,11 +22,8 @@ twelve = record {
   };
 }
 
-pub seen_from_twelve : (ball : List ℕ) (home : ℕ) → ball ≡ 12 ∷ 11 ∷ 13 ∷ [] → home ≡ 13 → SeenFromTwelve ball home
-seen_from_twelve ball home e f = subst (λ (b : List ℕ). SeenFromTwelve b home) (sym e) (subst (λ (h : ℕ). SeenFromTwelve (12 ∷ 11 ∷ 13 ∷ []) h) (sym f) twelve)
-
-twenty : SeenFromTwenty (20 ∷ 21 ∷ [])
-twenty = record {
+pub seen_from_twenty : SeenFromTwenty (20 ∷ 21 ∷ [])
+seen_from_twenty = record {
   distances = with_distances fork (ticks_of fork_delays) refl refl;
   balls = record {
     centre = 0;
@@ -36,6 +33,3 @@ twenty = record {
     named = refl;
   };
 }
-
-pub seen_from_twenty : (ball : List ℕ) → ball ≡ 20 ∷ 21 ∷ [] → SeenFromTwenty ball
-seen_from_twenty ball e = subst (λ (b : List ℕ). SeenFromTwenty b) (sym e) twenty

@@ -1,6 +1,6 @@
 -- What holds of orders, balls and managers, put together.
 use Rattle.std.proofs.Common.{ℕ}
-use Rattle.kind.specs.Laws.{Laws}
+use Rattle.kind.specs.Laws.{Laws, CostKind}
 use Rattle.plan.specs.Plan.{Plan}
 use Rattle.plan.specs.Sound.{Sound}
 use Rattle.measure.specs.Distance.{Distances}
@@ -8,8 +8,8 @@ use Rattle.order.specs.Balls.{Balls}
 use Rattle.order.proofs.Order as o
 use Rattle.order.proofs.Ordered as l
 
-pub balls : {C : Type 0} {none : C} {plus : C → C → C} {less : C → C → Type 0} {link : C → Type 0} {adds : C → C → C}
-    (laws : Laws none plus less link adds) (p : Plan C) (D : ℕ → ℕ → C) → Sound link p → Distances none plus less p D → Balls none plus less D p
+pub balls : {C : Type 0} {K : CostKind C}
+    (laws : Laws K) (p : Plan C) (D : ℕ → ℕ → C) → Sound K p → Distances K p D → Balls K D p
 balls laws p D sound distances = record {
   strict = o.strict laws p D;
   trans = o.order_trans laws p D;

@@ -3,8 +3,9 @@ use Rattle.std.proofs.Common.{◌≡◌, ℕ, zero, suc, ◌+◌, ◌<◌, Bool,
 use Rattle.std.proofs.ByRecursion.{has_get_or}
 use Rattle.std.proofs.lemmas.Bool.{and_parts, and_from, or_cases, or_left, or_right, ltb-true, lt-ltb, eqb-true, eq-eqb, cases_order}
 use Rattle.kind.specs.declared.delay.Delay.{Delay}
-use Rattle.kind.specs.Kinds.{delay, no_delay, both_delays, Shorter}
+use Rattle.kind.specs.Kinds.{delay, delay_kind}
 use Rattle.kind.specs.Kept.{delay_laws}
+use Rattle.kind.proofs.Delays.{less_ticks, ticks_less}
 use Rattle.plan.specs.Plan.{Plan, link, colour_of}
 use Rattle.order.specs.Views.{WithDistances}
 use Rattle.order.specs.Seen.{Ball, InBall}
@@ -18,15 +19,15 @@ row_distances : WithDistances row row_delays
 row_distances = with_distances row (ticks_of row_delays) refl refl
 
 -- the ball of relay 1, and that of relay 2: all five
-row_one : Ball Shorter row_delays row 1 (1 ∷ 0 ∷ 2 ∷ 3 ∷ 4 ∷ [])
+row_one : Ball delay_kind row_delays row 1 (1 ∷ 0 ∷ 2 ∷ 3 ∷ 4 ∷ [])
 row_one = ball_is row (ticks_of row_delays) 1 (1 ∷ 0 ∷ 2 ∷ 3 ∷ 4 ∷ []) 5 refl (1 ∷ 0 ∷ 2 ∷ 3 ∷ 4 ∷ []) refl refl
 
-row_two : Ball Shorter row_delays row 2 (2 ∷ 1 ∷ 3 ∷ 0 ∷ 4 ∷ [])
+row_two : Ball delay_kind row_delays row 2 (2 ∷ 1 ∷ 3 ∷ 0 ∷ 4 ∷ [])
 row_two = ball_is row (ticks_of row_delays) 2 (2 ∷ 1 ∷ 3 ∷ 0 ∷ 4 ∷ []) 5 refl (2 ∷ 1 ∷ 3 ∷ 0 ∷ 4 ∷ []) refl refl
 
 -- the relay at place i of a ball is in it
-in_ball : (p : Plan Delay) (T : ℕ → ℕ → ℕ) → WithDistances p (D p T) → (u : ℕ) (xs : List ℕ) → Ball Shorter (D p T) p u xs → (i : ℕ) → i < length xs
-    → InBall Shorter (D p T) p u (get_or xs i 0)
+in_ball : (p : Plan Delay) (T : ℕ → ℕ → ℕ) → WithDistances p (D p T) → (u : ℕ) (xs : List ℕ) → Ball delay_kind (D p T) p u xs → (i : ℕ) → i < length xs
+    → InBall delay_kind (D p T) p u (get_or xs i 0)
 in_ball p T m u xs ball i l = ((balls delay_laws p (D p T) m.sound m.distances).members u xs ball (get_or xs i 0)).1 (has_get_or xs i 0 l)
 
 pub any_member_fails : AnyMemberFails
@@ -54,10 +55,10 @@ fixed_size_fails = record {
 -- the link that a cheapest way begins with, by a test that computes
 module _ (p : Plan Delay) (T : ℕ → ℕ → ℕ) where
   abbrev one_way : ℕ → ℕ → ℕ → Bool
-  one_way u x k = let l = get_or p.links k (link 0 0 no_delay) in eqb l.from u && eqb (T u x) (l.cost.ticks + T l.to x)
+  one_way u x k = let l = get_or p.links k (link 0 0 (delay 0)) in eqb l.from u && eqb (T u x) (l.cost.ticks + T l.to x)
 
   abbrev other_way : ℕ → ℕ → ℕ → Bool
-  other_way u x k = let l = get_or p.links k (link 0 0 no_delay) in eqb l.to u && eqb (T u x) (l.cost.ticks + T l.from x)
+  other_way u x k = let l = get_or p.links k (link 0 0 (delay 0)) in eqb l.to u && eqb (T u x) (l.cost.ticks + T l.from x)
 
   abbrev begins_test : ℕ → ℕ → ℕ → Bool
   begins_test u x k = ltb k (length p.links) && (one_way u x k || other_way u x k)
@@ -68,8 +69,8 @@ module _ (p : Plan Delay) (T : ℕ → ℕ → ℕ) where
       (ltb-true _ _ h.0, by (or_cases (one_way u x k) (other_way u x k) h.1))
     where
       by : (one_way u x k ≡ true) ⊎ (other_way u x k ≡ true)
-          → let l = get_or p.links k (link 0 0 no_delay) in
-          ((l.from ≡ u) × (D p T u x ≡ both_delays l.cost (D p T l.to x))) ⊎ ((l.to ≡ u) × (D p T u x ≡ both_delays l.cost (D p T l.from x)))
+          → let l = get_or p.links k (link 0 0 (delay 0)) in
+          ((l.from ≡ u) × (D p T u x ≡ delay_kind.plus l.cost (D p T l.to x))) ⊎ ((l.to ≡ u) × (D p T u x ≡ delay_kind.plus l.cost (D p T l.from x)))
       by (inl f) = let g = and_parts _ _ f in inl (eqb-true _ _ g.0, ap delay (eqb-true _ _ g.1))
       by (inr f) = let g = and_parts _ _ f in inr (eqb-true _ _ g.0, ap delay (eqb-true _ _ g.1))
 
@@ -107,7 +108,7 @@ ring_colours (suc (suc (suc (suc (suc y))))) l e = absurd (omega arith)
 
 -- at relay 0, 3 stands before 4
 not_before : EntryBefore ring ring_delays 0 4 3 → ⊥
-not_before (inl l) = omega (arith, l)
+not_before (inl l) = omega (arith, less_ticks (ring_delays 0 4) (ring_delays 0 3) l)
 not_before (inr (e, (i, j, fi, fj, inl l))) = omega (arith, l, first_one ring (ticks_of ring_delays) 0 3 j 0 fj (first_is ring (ticks_of ring_delays) 0 3 0 refl))
 not_before (inr (e, (i, j, fi, fj, inr l))) = omega (arith, l.1)
 
@@ -117,11 +118,11 @@ is_before = inr (refl, (2, 3, first_is ring (ticks_of ring_delays) 1 4 2 refl, f
 
 no_more : EntryBall ring ring_delays 1 3 → ⊥
 no_more (zero, is, none) = omega (arith, is.0)
-no_more (suc zero, is, none) = none 1 (omega arith) refl (inl (omega arith))
+no_more (suc zero, is, none) = none 1 (omega arith) refl (inl (ticks_less (ring_delays 1 1) (ring_delays 1 3) (omega arith)))
 no_more (suc (suc zero), is, none) = none 4 (omega arith) refl is_before
 no_more (suc (suc (suc c)), is, none) = omega (arith, is.1)
 
-ring_ball : Ball Shorter ring_delays ring 1 (1 ∷ 0 ∷ 3 ∷ 4 ∷ [])
+ring_ball : Ball delay_kind ring_delays ring 1 (1 ∷ 0 ∷ 3 ∷ 4 ∷ [])
 ring_ball = ball_is ring (ticks_of ring_delays) 1 (1 ∷ 0 ∷ 3 ∷ 4 ∷ 2 ∷ []) 4 refl (1 ∷ 0 ∷ 3 ∷ 4 ∷ []) refl refl
 
 pub entry_order_fails : EntryOrderFails

@@ -10,7 +10,8 @@ abbrev pub line : Plan Delay
 line = record {
   colours = 2;
   relays = relay 10 1 ∷ relay 11 2 ∷ relay 12 2 ∷ relay 13 1 ∷ relay 14 2 ∷ relay 15 2 ∷ [];
-  links = link 0 1 (delay 2) ∷ link 1 2 (delay 3) ∷ link 2 3 (delay 4) ∷ link 3 4 (delay 1) ∷ link 4 5 (delay 5) ∷ [];
+  links = link 0 1 (delay 2) ∷ link 1 2 (delay 3) ∷ link 2 3 (delay 4) ∷ link 3 4 (delay 1)
+      ∷ link 4 5 (delay 5) ∷ [];
 }
 
 abbrev pub line_delays : ℕ → ℕ → Delay

@@ -6,22 +6,14 @@ ghost use Rattle.order.specs.Balls.{Balls};
 
 use kind::Cost;
 
-// The colour of the landmarks.
+/// The colour of the landmarks.
 pub const LANDMARKS: u8 = 1;
 
-// The first of the colours.
-fn first_colour() -> u8
-    ensures { result ≡ 1 }
-{
-    LANDMARKS
-}
-
-// Answers `LANDMARKS`. Any sound plan with its distances has the theory of specs/Balls.antt.
+/// Answers `LANDMARKS`. Any sound plan with its distances has the theory of specs/Balls.antt.
 pub fn landmark_colour<C: Cost>() -> u8
     ensures value { result ≡ 1 }
-    ensures balls { (p : Plan C) (D : ℕ → ℕ → C) → Sound C.Cost.link p
-        → Distances C.Cost.none C.Cost.plus C.Cost.less p D
-        → Balls C.Cost.none C.Cost.plus C.Cost.less D p }
+    ensures balls { (p : Plan C) (D : ℕ → ℕ → C)
+        → Sound C.kind p → Distances C.kind p D → Balls C.kind D p }
 {
-    first_colour()
+    LANDMARKS
 }

@@ -1,4 +1,4 @@
-// The order of the relays as one of them sees it: balls and managers.
+//! The order of the relays as one of them sees it: balls and managers.
 
 #![tactic(auto)]
 

@@ -1,7 +1,10 @@
 pub mod Paired
 pub mod Held
-pub mod Order
-pub mod Adding
+pub mod Pairs
 pub mod Walks
 pub mod Reaching
+pub mod Adding
 pub mod Closing
+pub mod Histories
+pub mod Moved
+pub mod Failing

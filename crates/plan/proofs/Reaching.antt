@@ -1,14 +1,13 @@
 -- Marks spread from relay 0 over the pairs of ends: they reach what walks reach.
-use Rattle.std.proofs.Common.{◌≡◌, ℕ, zero, suc, ◌+◌, ◌<◌, Bool, true, false, cond, not, ◌⊎◌, List, [], ◌∷◌, ◌++◌, length, get_or, take, set, replicate, count_by, sym, refl, ap, ◌∙◌, subst, inl, inr, arith}
-use Rattle.std.proofs.lemmas.List.{get_or-set_same, get_or-set_other, length-set, length-take-le, get_or-take}
+use Rattle.std.proofs.Common.{◌≡◌, ℕ, zero, suc, ◌+◌, ◌<◌, Bool, true, false, cond, not, ◌⊎◌, List, [], ◌∷◌, ◌++◌, length, get_or, set, replicate, count_by, sym, refl, ap, ◌∙◌, subst, inl, inr, arith}
+use Rattle.std.proofs.lemmas.List.{get_or-set_same, get_or-set_other, length-set}
 use Rattle.std.proofs.lemmas.List.Sums.{sum_by-set}
 use Rattle.std.proofs.lemmas.Bool.{cases_eq, true≢false}
 use Rattle.plan.specs.declared.ends.Ends.{Ends}
-use Rattle.plan.specs.declared.counts.Counts.{Counts}
-use Rattle.plan.specs.Plan.{held}
+use Rattle.plan.specs.Plan.{InStep, plan_with}
 use Rattle.plan.specs.Walk.{Hop, Walk, Chain, SomePair, Pair, nowhere}
 use Rattle.plan.specs.Reach.{Route, Reaches, IsMarked, Marked, Crosses, NoCrossing, Within, AllReached}
-use Rattle.plan.proofs.Held.{Enough, linked_at, pair_of}
+use Rattle.plan.proofs.Held.{linked_at, pair_of}
 use Rattle.plan.proofs.Walks.{walk_join, walk_back}
 
 -- one stop more
@@ -80,47 +79,33 @@ stays_marked es ms shut u v h r = along u r.stops h r.route
     along x (s ∷ ss) m p = along s ss (shut x s p.0 m) p.1
 
 -- What is reached over the pairs is reached by a walk, and the other way round.
-module _ {C : Type 0} (none : C) (n : Counts) (names colours : List ℕ) (ends : List Ends) (costs : List C)
-    (long : Enough n names colours ends costs) (part : List Ends) (front : part ≡ take n.links ends) where
-  pair_there : (u v : ℕ) → SomePair part u v → (k : ℕ) × (k < n.links) × Pair (get_or ends k nowhere) u v
-  pair_there u v (k, h, pair) =
-      let size : length part ≡ n.links = ap length front ∙ length-take-le n.links ends long.all_ends in
-      let below : k < n.links = omega (arith, size, h) in
-      let same : get_or part k nowhere ≡ get_or ends k nowhere = ap (λ (xs : List Ends). get_or xs k nowhere) front ∙ get_or-take n.links ends k nowhere below in
-      (k, below, subst (λ (x : Ends). Pair x u v) same pair)
-
-  pair_here : (u v : ℕ) → ((k : ℕ) × (k < n.links) × Pair (get_or ends k nowhere) u v) → SomePair part u v
-  pair_here u v (k, below, pair) =
-      let size : length part ≡ n.links = ap length front ∙ length-take-le n.links ends long.all_ends in
-      let same : get_or part k nowhere ≡ get_or ends k nowhere = ap (λ (xs : List Ends). get_or xs k nowhere) front ∙ get_or-take n.links ends k nowhere below in
-      (k, omega (arith, size, below), subst (λ (x : Ends). Pair x u v) (sym same) pair)
-
-  walk_along : (u v : ℕ) (ss : List ℕ) → Route part u ss v → Walk (held n names colours ends costs) u v
+module _ {C : Type 0} (none : C) (k : ℕ) (names colours : List ℕ) (ends : List Ends) (costs : List C)
+    (step : InStep k names colours ends costs) where
+  walk_along : (u v : ℕ) (ss : List ℕ) → Route ends u ss v → Walk (plan_with k names colours ends costs) u v
   walk_along u v [] p = record { hops = []; chain = p }
-  walk_along u v (s ∷ ss) p =
-      let at = pair_there u s p.0 in
-      let rest = walk_along s v ss p.1 in
+  walk_along u v (s ∷ ss) ((j, h, pair), p) =
+      let rest = walk_along s v ss p in
       record {
-        hops = record { cost = get_or costs at.0 none; to = s } ∷ rest.hops;
-        chain = (linked_at n names colours ends costs long at.0 u s none at.1 at.2, rest.chain);
+        hops = record { cost = get_or costs j none; to = s } ∷ rest.hops;
+        chain = (linked_at k names colours ends costs step j u s none h pair, rest.chain);
       }
 
-  pub walk_of : (u v : ℕ) → Reaches part u v → Walk (held n names colours ends costs) u v
+  pub walk_of : (u v : ℕ) → Reaches ends u v → Walk (plan_with k names colours ends costs) u v
   walk_of u v r = walk_along u v r.stops r.route
 
   stops_of : List (Hop C) → List ℕ
   stops_of [] = []
   stops_of (h ∷ hs) = h.to ∷ stops_of hs
 
-  path_of : (u v : ℕ) (hs : List (Hop C)) → Chain (held n names colours ends costs) u hs v → Route part u (stops_of hs) v
+  path_of : (u v : ℕ) (hs : List (Hop C)) → Chain (plan_with k names colours ends costs) u hs v → Route ends u (stops_of hs) v
   unfolding stops_of
   path_of u v [] c = c
-  path_of u v (h ∷ hs) c = (pair_here u h.to (pair_of n names colours ends costs long u h.to h.cost c.0), path_of h.to v hs c.1)
+  path_of u v (h ∷ hs) c = (pair_of k names colours ends costs step u h.to h.cost c.0, path_of h.to v hs c.1)
 
-  pub reach_of : (u v : ℕ) → Walk (held n names colours ends costs) u v → Reaches part u v
+  pub reach_of : (u v : ℕ) → Walk (plan_with k names colours ends costs) u v → Reaches ends u v
   reach_of u v w = record { stops = stops_of w.hops; route = path_of u v w.hops w.chain }
 
   -- what relay 0 reaches is joined both ways
-  pub connected : (m : ℕ) → AllReached part m → (u v : ℕ) → u < m → v < m → Walk (held n names colours ends costs) u v
+  pub connected : (m : ℕ) → AllReached ends m → (u v : ℕ) → u < m → v < m → Walk (plan_with k names colours ends costs) u v
   connected m all u v hu hv =
       walk_join _ u 0 v (walk_back _ 0 u (walk_of 0 u (all u hu))) (walk_of 0 v (all v hv))

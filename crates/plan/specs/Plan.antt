@@ -1,5 +1,5 @@
 -- A plan: relays in order of entry, numbered from 0, and links between them, in order of entry.
-use Rattle.std.specs.Prelude.{ℕ, List, [], ◌∷◌, ◌++◌, take, slice_index_or}
+use Rattle.std.specs.Prelude.{◌≡◌, ℕ, ◌≤◌, List, [], ◌∷◌, ◌++◌, length, map, take, slice_index_or}
 use Rattle.plan.specs.declared.ends.Ends.{Ends}
 use Rattle.plan.specs.declared.counts.Counts.{Counts}
 
@@ -48,24 +48,61 @@ paired f (x ∷ xs) (y ∷ ys) = f x y ∷ paired f xs ys
 abbrev pub link_of : {C : Type 0} → Ends → C → Link C
 link_of e c = link e.from e.to c
 
--- The plan that the lists hold: the first entries of each, as many as there are relays and links.
--- What stands behind them in the lists means nothing.
-abbrev pub held : {C : Type 0} → Counts → List ℕ → List ℕ → List Ends → List C → Plan C
-held n names colours ends costs = record {
-  colours = n.colours;
-  relays = paired relay (take n.relays names) (take n.relays colours);
-  links = paired link_of (take n.links ends) (take n.links costs);
+-- the two ends of each link, and the cost of each
+abbrev pub ends_of : {C : Type 0} → Plan C → List Ends
+ends_of p = map (λ l. record { from = l.from; to = l.to }) p.links
+
+abbrev pub costs_of : {C : Type 0} → Plan C → List C
+costs_of p = map (λ l. l.cost) p.links
+
+-- no relay and no link yet
+abbrev pub empty_plan : {C : Type 0} → ℕ → Plan C
+empty_plan k = record { colours = k; relays = []; links = [] }
+
+-- the plan of k colours with these relays and links
+abbrev pub plan_with : {C : Type 0} → ℕ → List ℕ → List ℕ → List Ends → List C → Plan C
+plan_with k names colours ends costs = record {
+  colours = k;
+  relays = paired relay names colours;
+  links = paired link_of ends costs;
 }
 
--- the four lists
-pub record Lists (C : Type 0) : Type 0 where
+-- lists cut to a plan: a name and a colour for each relay, ends and a cost for each link, and as many as a plan may have
+pub record InStep {C : Type 0} (k : ℕ) (names colours : List ℕ)
+    (ends : List Ends) (costs : List C) : Type 0 where
+  pub palette : k ≤ 16
+  pub few : length names ≤ 256
+  pub relays : length colours ≡ length names
+  pub sparse : length ends ≤ 1024
+  pub links : length costs ≡ length ends
+
+-- what the lists of relays hold, and those of links
+pub record RelayEntries : Type 0 where
   pub names : List ℕ
   pub colours : List ℕ
+
+pub record LinkEntries (C : Type 0) : Type 0 where
   pub ends : List Ends
   pub costs : List C
 
-abbrev pub lists : {C : Type 0} → List ℕ → List ℕ → List Ends → List C → Lists C
-lists names colours ends costs = record { names = names; colours = colours; ends = ends; costs = costs }
+-- the four lists in which a plan is entered
+pub record Lists (C : Type 0) : Type 0 where
+  pub relays : RelayEntries
+  pub links : LinkEntries C
 
-abbrev pub plan_in : {C : Type 0} → Counts → Lists C → Plan C
-plan_in n l = held n l.names l.colours l.ends l.costs
+abbrev pub lists : {C : Type 0} → RelayEntries → LinkEntries C → Lists C
+lists r l = record { relays = r; links = l }
+
+-- The plan that the lists hold: the first entries of each, as many as there are relays and links.
+-- What stands behind them in the lists means nothing.
+abbrev pub plan_of : {C : Type 0} → Counts → Lists C → Plan C
+plan_of n l = plan_with n.colours
+    (take n.relays l.relays.names) (take n.relays l.relays.colours)
+    (take n.links l.links.ends) (take n.links l.links.costs)
+
+-- no list is shorter than the entries that belong into it
+pub record IsLong {C : Type 0} (n : Counts) (l : Lists C) : Type 0 where
+  pub names : n.relays ≤ length l.relays.names
+  pub colours : n.relays ≤ length l.relays.colours
+  pub ends : n.links ≤ length l.links.ends
+  pub costs : n.links ≤ length l.links.costs

@@ -1,24 +1,15 @@
--- What the steps of a draft do: what each gives, and what the lists then hold.
+-- What the steps of a draft do to the lists and to the plan that they hold.
 use Rattle.std.specs.Prelude.{◌≡◌, ℕ, ◌+◌, ◌⊎◌, Ok, Err, Result, slice_set}
 use Rattle.plan.specs.declared.closed.Closed.{Closed}
 use Rattle.plan.specs.declared.counts.Counts.{Counts}
 use Rattle.plan.specs.declared.draft.Draft.{Draft}
+use Rattle.plan.specs.declared.ends.Ends.{Ends}
 use Rattle.plan.specs.declared.refusal.Refusal.{Refusal}
 use Rattle.plan.specs.declared.refusal.Refusal.TheVariants.{ColourAbsent, OutOfReach}
-use Rattle.plan.specs.Plan.{Plan, Lists, plan_in, relay, link, with_relay, with_link}
-use Rattle.plan.specs.Sound.{Sound, LowestAbsent}
+use Rattle.plan.specs.Plan.{Plan, Lists, RelayEntries, LinkEntries, lists, plan_of, IsLong, relay, with_relay, with_link, link_of}
+use Rattle.plan.specs.Sound.{Called, LowestAbsent}
 use Rattle.plan.specs.Walk.{LowestOut}
-use Rattle.plan.specs.Checks.{Accepted, Called, Closable, Short, OpenRefused, RelayRefused, LinkRefused, CloseRefused}
-
--- the lists hold the plan p: none of them is too short, and their first entries are those of p
-pub record Holds {C : Type 0} (n : Counts) (l : Lists C) (p : Plan C) : Type 0 where
-  pub enough : Short n l.names l.colours l.ends l.costs → ⊥
-  pub is : plan_in n l ≡ p
-
--- opening a draft with k colours: it has that many, and nothing is entered
-abbrev pub OpenStep : ℕ → Result Draft Refusal → Type 0
-OpenStep k (Ok d) = Accepted (OpenRefused k) × (d.counts.colours ≡ k) × (d.counts.relays ≡ 0) × (d.counts.links ≡ 0)
-OpenStep k (Err f) = OpenRefused k f
+use Rattle.plan.specs.Rules.{Closable}
 
 -- so many relays and links more, and the same colours
 pub record Grown (old new : Counts) (relays links : ℕ) : Type 0 where
@@ -26,41 +17,35 @@ pub record Grown (old new : Counts) (relays links : ℕ) : Type 0 where
   pub more_relays : new.relays ≡ old.relays + relays
   pub more_links : new.links ≡ old.links + links
 
-module _ {C : Type 0} (lawful : C → Type 0) where
-  -- a relay of name a and colour c is entered behind the others, and nothing else has changed
-  pub record RelayAdded (old new : Counts) (l l' : Lists C) (a c : ℕ) : Type 0 where
-    pub counts : Grown old new 1 0
-    pub name : l'.names ≡ slice_set l.names old.relays a
-    pub colour : l'.colours ≡ slice_set l.colours old.relays c
-    pub holds : Holds new l' (with_relay (plan_in old l) (relay a c))
-    pub sound : Sound lawful (plan_in old l) → Sound lawful (plan_in new l')
+-- the lists with a relay, or a link, written at the place of its number
+abbrev pub relay_written : RelayEntries → ℕ → ℕ → ℕ → RelayEntries
+relay_written r i a c = record { names = slice_set r.names i a; colours = slice_set r.colours i c }
 
-  -- a link of cost c between the relays of names a and b is entered behind the others, and nothing else has changed
-  pub record LinkAdded (old new : Counts) (l l' : Lists C) (a b : ℕ) (c : C) : Type 0 where
-    pub counts : Grown old new 0 1
-    pub from : ℕ
-    pub to : ℕ
-    pub from_called : Called (plan_in old l) from a
-    pub to_called : Called (plan_in old l) to b
-    pub pair : l'.ends ≡ slice_set l.ends old.links (record { from = from; to = to })
-    pub cost : l'.costs ≡ slice_set l.costs old.links c
-    pub holds : Holds new l' (with_link (plan_in old l) (link from to c))
-    pub sound : Sound lawful (plan_in old l) → Sound lawful (plan_in new l')
+abbrev pub link_written : {C : Type 0} → LinkEntries C → ℕ → Ends → C → LinkEntries C
+link_written l j e c = record { ends = slice_set l.ends j e; costs = slice_set l.costs j c }
 
-  -- adding a relay to the draft d over the lists l, which are l' afterwards
-  abbrev pub RelayStep : Draft → Lists C → Lists C → ℕ → ℕ → Result Draft (Draft × Refusal) → Type 0
-  RelayStep d l l' a c (Ok d') = Accepted (RelayRefused d.counts l.names l.colours l.ends l.costs a c) × RelayAdded d.counts d'.counts l l' a c
-  RelayStep d l l' a c (Err e) = RelayRefused d.counts l.names l.colours l.ends l.costs a c e.1 × (e.0 ≡ d) × (l'.names ≡ l.names) × (l'.colours ≡ l.colours)
+-- A draft n in the lists l, to which a relay of name a and colour c is added; then they are n' and l'.
+pub record RelayAdded {C : Type 0} (n : Counts) (l : Lists C) (a c : ℕ)
+    (n' : Counts) (l' : Lists C) : Type 0 where
+  pub counts : Grown n n' 1 0
+  pub plan : plan_of n' l' ≡ with_relay (plan_of n l) (relay a c)
+  pub long : IsLong n' l'
+  pub written : l' ≡ lists (relay_written l.relays n.relays a c) l.links
 
-  -- adding a link
-  abbrev pub LinkStep : Draft → Lists C → Lists C → ℕ → ℕ → C → Result Draft (Draft × Refusal) → Type 0
-  LinkStep d l l' a b c (Ok d') = Accepted (LinkRefused lawful d.counts l.names l.colours l.ends l.costs a b c) × LinkAdded d.counts d'.counts l l' a b c
-  LinkStep d l l' a b c (Err e) = LinkRefused lawful d.counts l.names l.colours l.ends l.costs a b c e.1 × (e.0 ≡ d) × (l'.ends ≡ l.ends) × (l'.costs ≡ l.costs)
+-- the plan new is old with a link at its end, of ends e and cost c, between the relays called a and b
+pub record AddsLink {C : Type 0} (old new : Plan C) (e : Ends) (a b : ℕ) (c : C) : Type 0 where
+  pub from_called : Called old e.from a
+  pub to_called : Called old e.to b
+  pub is : new ≡ with_link old (link_of e c)
 
--- closing, whatever the lists hold
-abbrev pub CloseStep : {C : Type 0} → Draft → Lists C → Result Closed (Draft × Refusal) → Type 0
-CloseStep d l (Ok p) = Accepted (CloseRefused d.counts l.names l.colours l.ends l.costs) × Closable (plan_in d.counts l) × (p.counts ≡ d.counts)
-CloseStep d l (Err e) = CloseRefused d.counts l.names l.colours l.ends l.costs e.1 × (e.0 ≡ d)
+-- a draft n in the lists l, to which a link of cost c between the names a and b is added; then they are n' and l'
+pub record LinkAdded {C : Type 0} (n : Counts) (l : Lists C) (a b : ℕ) (c : C)
+    (n' : Counts) (l' : Lists C) : Type 0 where
+  pub counts : Grown n n' 0 1
+  pub pair : Ends
+  pub plan : AddsLink (plan_of n l) (plan_of n' l') pair a b c
+  pub long : IsLong n' l'
+  pub written : l' ≡ lists l.relays (link_written l.links n.links pair c)
 
 -- closing a sound plan: accepted exactly when it can be closed; otherwise a colour is absent, or, all colours being there, a relay is out of reach
 abbrev pub Closes : {C : Type 0} → Plan C → Result Closed (Draft × Refusal) → Type 0

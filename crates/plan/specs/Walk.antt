@@ -1,7 +1,7 @@
 -- Walks over the links of a plan, and what they cost.
 use Rattle.std.specs.Prelude.{◌≡◌, ℕ, ◌<◌, ◌⊎◌, List, [], ◌∷◌, map, length, slice_index_or}
 use Rattle.std.specs.List.{ContainsAt}
-use Rattle.kind.specs.Laws.{total}
+use Rattle.kind.specs.Laws.{total, CostKind}
 use Rattle.plan.specs.declared.ends.Ends.{Ends}
 use Rattle.plan.specs.Plan.{Plan, link}
 
@@ -21,6 +21,10 @@ SomePair es u v = (k : ℕ) × (k < length es) × Pair (slice_index_or es k nowh
 abbrev pub Linked : {C : Type 0} → Plan C → ℕ → ℕ → C → Type 0
 Linked p u v c = ContainsAt p.links (link u v c) ⊎ ContainsAt p.links (link v u c)
 
+-- some link joins u and v
+abbrev pub ArePaired : {C : Type 0} → Plan C → ℕ → ℕ → Type 0
+ArePaired {C} p u v = (c : C) × Linked p u v c
+
 -- one step of a walk: over a link of this cost, to this relay
 pub record Hop (C : Type 0) : Type 0 where
   pub cost : C
@@ -37,8 +41,8 @@ pub record Walk {C : Type 0} (p : Plan C) (u v : ℕ) : Type 0 where
   pub chain : Chain p u hops v
 
 -- the sum of the costs of the hops
-abbrev pub cost_of : {C : Type 0} → C → (C → C → C) → List (Hop C) → C
-cost_of none plus hops = total none plus (map (λ h. h.cost) hops)
+abbrev pub cost_of : {C : Type 0} → CostKind C → List (Hop C) → C
+cost_of K hops = total K (map (λ h. h.cost) hops)
 
 -- every two relays have a walk between them
 abbrev pub Connected : {C : Type 0} → Plan C → Type 0

@@ -1,87 +1,79 @@
-ghost use Rattle.std.specs.Prelude.{◌≡◌, ◌<◌, Ok, Err, Decides};
-ghost use Rattle.plan.specs.Reach.{FirstPlace};
-ghost use Rattle.plan.specs.Checks.{Accepted, Short, RelayRefused, LinkRefused, Called};
-ghost use Rattle.plan.specs.Walk.{SomePair};
-ghost use Rattle.plan.specs.Plan.{held, lists};
-ghost use Rattle.plan.specs.Steps.{OpenStep, RelayStep, LinkStep};
+ghost use Rattle.std.specs.Prelude.{◌≡◌, ◌<◌, MatchResult, IfOk, IfErr, OnOk, OnErr};
+ghost use Rattle.plan.specs.Plan.{lists, plan_of};
+ghost use Rattle.plan.specs.Lent.{relays_in, links_in, SameRelays, SameLinks};
+ghost use Rattle.plan.specs.Sound.{Sound, Called};
+ghost use Rattle.plan.specs.Checks.{AllHold, FirstFails};
+ghost use Rattle.plan.specs.Rules.{open_checks, relay_checks, link_checks};
+ghost use Rattle.plan.specs.Steps.{Grown, RelayAdded, LinkAdded};
+ghost use Rattle.plan.specs.History.{AddRelay, AddLink, Continues};
 
-use crate::counts::Counts;
+use crate::counts::{Counts, MOST_COLOURS};
 use crate::ends::Ends;
+use crate::lists::{LinkLists, LinkView, RelayLists, RelayView};
 use crate::refusal::Refusal;
+use crate::view::PlanView;
 use kind::Cost;
+use std::marker::Model;
 
-// The largest name.
-const LARGEST_NAME: u64 = 4_294_967_295;
+// `Draft` and `Closed` are two types, and a measured plan is a third, since each allows other
+// steps: a rule of the project.
 
-// A plan that is being entered: relays and links may be added, and it may be closed.
-// The entries lie in four lists that are lent at each call: names, colours, ends and costs.
+/// A plan that is being entered: relays and links may be added, and it may be closed.
+/// The entries lie in lists that are lent at each call; a clause sees a draft as its counts.
 #[derive(Drop)]
 pub struct Draft {
-    pub(crate) counts: Counts,
+    counts: Counts,
 }
 
-// The place of the first of these names that is `name`.
-fn find(names: &[u32], name: u64) -> Option<usize>
-    ensures { FirstPlace names.now name result }
-{
-    for (i, x) in names.iter().enumerate() {
-        if u64::from(*x) == name {
-            return Some(i);
-        }
-    }
-    None
-}
+impl Model for Draft {
+    ghost use Rattle.plan.specs.declared.counts.Counts.{Counts};
 
-// Whether one of these links joins the two relays.
-fn joins(ends: &[Ends], one: usize, other: usize) -> bool
-    ensures { Decides result (SomePair ends.now one other) }
-{
-    for e in ends {
-        let (from, to) = (usize::from(e.from), usize::from(e.to));
-        if from == one && to == other || from == other && to == one {
-            return true;
-        }
-    }
-    false
+    ghost Value = { Counts };
+
+    ghost view = { λ d. d.counts };
 }
 
 impl Counts {
-    // Whether one of the lists is shorter than the entries that belong into it.
-    pub fn exceed<C: Cost>(self, names: &[u32], colours: &[u8], ends: &[Ends], costs: &[C]) -> bool
-        ensures { Decides result (Short self names.now colours.now ends.now costs.now) }
+    // The counts with one relay more. Each field is named, since `..self` passes no ghost field on.
+    fn with_relay(self) -> Counts
+        requires { self.relays < 256 }
+        ensures { Grown self result 1 0 }
     {
-        let relays = usize::from(self.relays);
-        let links = usize::from(self.links);
-        names.len() < relays || colours.len() < relays || ends.len() < links || costs.len() < links
+        Counts {
+            colours: self.colours,
+            relays: self.relays + 1,
+            links: self.links,
+        }
+    }
+
+    // The counts with one link more.
+    fn with_link(self) -> Counts
+        requires { self.links < 1024 }
+        ensures { Grown self result 0 1 }
+    {
+        Counts {
+            colours: self.colours,
+            relays: self.relays,
+            links: self.links + 1,
+        }
     }
 }
 
 // Whether a relay of this name and colour may be added; if not, why.
 fn check_relay<C: Cost>(
     counts: Counts,
-    names: &[u32],
-    colours: &[u8],
-    ends: &[Ends],
-    costs: &[C],
+    relays: &RelayView,
+    links: &LinkView<C>,
     name: u64,
     colour: u64,
 ) -> Result<(), Refusal>
-    ensures { elim result [
-      | Ok u ↦ Accepted (RelayRefused counts names.now colours.now ends.now costs.now name colour)
-      | Err f ↦ RelayRefused counts names.now colours.now ends.now costs.now name colour f
-    ] }
+    ensures { MatchResult result
+        (λ _. AllHold (relay_checks counts (lists relays.now links.now) name colour))
+        (λ f. FirstFails (relay_checks counts (lists relays.now links.now) name colour) f) }
 {
-    if counts.exceed(names, colours, ends, costs) {
-        return Err(Refusal::ListTooShort);
-    }
-    if name < 1 || name > LARGEST_NAME || colour < 1 || colour > u64::from(counts.colours) {
-        return Err(Refusal::BeyondLimit);
-    }
-    let relays = usize::from(counts.relays);
-    if find(&names[0..relays], name).is_some() {
-        return Err(Refusal::NameBorne);
-    }
-    if relays >= 256 || names.len() <= relays || colours.len() <= relays {
+    let plan = PlanView::new(counts, relays, links)?;
+    plan.check_relay(name, colour)?;
+    if !relays.has_place(counts.relays) {
         return Err(Refusal::NoPlace);
     }
     Ok(())
@@ -90,55 +82,39 @@ fn check_relay<C: Cost>(
 // Whether a link between these names may be added; if so, its ends, if not, why.
 fn check_link<C: Cost>(
     counts: Counts,
-    names: &[u32],
-    colours: &[u8],
-    ends: &[Ends],
-    costs: &[C],
+    relays: &RelayView,
+    links: &LinkView<C>,
     from: u64,
     to: u64,
     cost: C,
 ) -> Result<Ends, Refusal>
-    ensures { elim result [
-      | Ok e ↦ Accepted
-          (LinkRefused C.Cost.link counts names.now colours.now ends.now costs.now from to cost)
-          × Called (held counts names.now colours.now ends.now costs.now) e.from from
-          × Called (held counts names.now colours.now ends.now costs.now) e.to to
-      | Err f ↦ LinkRefused C.Cost.link counts names.now colours.now ends.now costs.now from to
-          cost f
-    ] }
+    ensures checked { MatchResult result
+        (λ _. AllHold (link_checks C.kind counts (lists relays.now links.now) from to cost))
+        (λ f. FirstFails (link_checks C.kind counts (lists relays.now links.now) from to cost) f) }
+    ensures from { IfOk result
+        (λ e. Called (plan_of counts (lists relays.now links.now)) e.from from) }
+    ensures to { IfOk result
+        (λ e. Called (plan_of counts (lists relays.now links.now)) e.to to) }
 {
-    if counts.exceed(names, colours, ends, costs) {
-        return Err(Refusal::ListTooShort);
-    }
-    if from > LARGEST_NAME || to > LARGEST_NAME || !cost.is_link() {
-        return Err(Refusal::BeyondLimit);
-    }
-    let relays = usize::from(counts.relays);
-    let Some(one) = find(&names[0..relays], from) else {
-        return Err(Refusal::BadLink);
-    };
-    let Some(other) = find(&names[0..relays], to) else {
-        return Err(Refusal::BadLink);
-    };
-    let links = usize::from(counts.links);
-    if from == to || joins(&ends[0..links], one, other) {
-        return Err(Refusal::BadLink);
-    }
-    if links >= 1024 || ends.len() <= links || costs.len() <= links {
+    let plan = PlanView::new(counts, relays, links)?;
+    let ends = plan.check_link(from, to, cost)?;
+    if !links.has_place(counts.links) {
         return Err(Refusal::NoPlace);
     }
-    Ok(Ends {
-        from: one as u16,
-        to: other as u16,
-    })
+    Ok(ends)
 }
 
 impl Draft {
-    // A draft with this many colours, and no relay yet.
+    /// A draft with this many colours, 1 to 16, and no relay yet.
+    /// Refused with `BeyondLimit` for any other number.
     pub fn open(colours: u64) -> Result<Draft, Refusal>
-        ensures { OpenStep colours result }
+        ensures colours { IfOk result (λ d. d.colours ≡ colours) }
+        ensures no_relays { IfOk result (λ d. d.relays ≡ 0) }
+        ensures no_links { IfOk result (λ d. d.links ≡ 0) }
+        ensures accepted { OnOk result (AllHold (open_checks colours)) }
+        ensures refused { IfErr result (λ f. FirstFails (open_checks colours) f) }
     {
-        if colours < 1 || colours > 16 {
+        if colours < 1 || colours > MOST_COLOURS as u64 {
             return Err(Refusal::BeyondLimit);
         }
         let counts = Counts {
@@ -149,66 +125,88 @@ impl Draft {
         Ok(Draft { counts })
     }
 
-    // How much has been entered.
+    /// How much has been entered.
     pub fn counts(&self) -> Counts
-        ensures { result ≡ self.now.counts }
+        ensures { result ≡ self.now }
     {
         self.counts
     }
 
-    // Adds a relay behind the others.
+    /// Adds a relay behind the others.
+    /// Refused, in this order: `ListTooShort`, `BeyondLimit` for the name or the colour, `NameBorne`, and `NoPlace`
+    /// in the plan or in a list; the draft is then given back, and the lists are as they were.
     pub fn add_relay<C: Cost>(
         self,
-        names: &mut [u32],
-        colours: &mut [u8],
-        ends: &[Ends],
-        costs: &[C],
+        relays: &mut RelayLists,
+        links: &LinkView<C>,
         name: u64,
         colour: u64,
     ) -> Result<Draft, (Draft, Refusal)>
-        ensures { RelayStep C.Cost.link self (lists names.old colours.old ends.now costs.now)
-            (lists names.new colours.new ends.now costs.now) name colour result }
+        ensures accepted { OnOk result
+            (AllHold (relay_checks self (lists (relays_in relays.old) links.now) name colour)) }
+        ensures refused { IfErr result (λ e. FirstFails
+            (relay_checks self (lists (relays_in relays.old) links.now) name colour) e.1) }
+        ensures returned { IfErr result (λ e. e.0 ≡ self) }
+        ensures unchanged { OnErr result (relays_in relays.new ≡ relays_in relays.old) }
+
+        ensures added { IfOk result (λ d. RelayAdded
+            self (lists (relays_in relays.old) links.now) name colour
+            d (lists (relays_in relays.new) links.now)) }
+        ensures sound { IfOk result (λ d.
+            Sound C.kind (plan_of self (lists (relays_in relays.old) links.now))
+            → Sound C.kind (plan_of d (lists (relays_in relays.new) links.now))) }
+        ensures history { Continues C.kind
+            self (lists (relays_in relays.old) links.now) (AddRelay name colour)
+            result (lists (relays_in relays.new) links.now) }
+        ensures lent { SameRelays relays.old relays.new }
     {
-        if let Err(refusal) = check_relay(self.counts, names, colours, ends, costs, name, colour) {
+        if let Err(refusal) = check_relay(self.counts, &relays.view(), links, name, colour) {
             return Err((self, refusal));
         }
-        let relays = usize::from(self.counts.relays);
-        names[relays] = name as u32;
-        colours[relays] = colour as u8;
-        let counts = Counts {
-            colours: self.counts.colours,
-            relays: self.counts.relays + 1,
-            links: self.counts.links,
-        };
-        Ok(Draft { counts })
+        relays.write(self.counts.relays, name as u32, colour as u8);
+        Ok(Draft {
+            counts: self.counts.with_relay(),
+        })
     }
 
-    // Adds a link behind the others, between the relays of these names.
+    /// Adds a link behind the others, between the relays of these names.
+    /// Refused, in this order: `ListTooShort`, `BeyondLimit` for a name or the cost, `BadLink` for an end that no relay
+    /// bears, equal ends or a pair already linked, and `NoPlace` in the plan or in a list; the draft is then given back,
+    /// and the lists are as they were.
     pub fn add_link<C: Cost>(
         self,
-        names: &[u32],
-        colours: &[u8],
-        ends: &mut [Ends],
-        costs: &mut [C],
+        relays: &RelayView,
+        links: &mut LinkLists<C>,
         from: u64,
         to: u64,
         cost: C,
     ) -> Result<Draft, (Draft, Refusal)>
-        ensures { LinkStep C.Cost.link self (lists names.now colours.now ends.old costs.old)
-            (lists names.now colours.now ends.new costs.new) from to cost result }
+        ensures accepted { OnOk result
+            (AllHold
+            (link_checks C.kind self (lists relays.now (links_in links.old)) from to cost)) }
+        ensures refused { IfErr result (λ e. FirstFails
+            (link_checks C.kind self (lists relays.now (links_in links.old)) from to cost) e.1) }
+        ensures returned { IfErr result (λ e. e.0 ≡ self) }
+        ensures unchanged { OnErr result (links_in links.new ≡ links_in links.old) }
+
+        ensures added { IfOk result (λ d. LinkAdded
+            self (lists relays.now (links_in links.old)) from to cost
+            d (lists relays.now (links_in links.new))) }
+        ensures sound { IfOk result (λ d.
+            Sound C.kind (plan_of self (lists relays.now (links_in links.old)))
+            → Sound C.kind (plan_of d (lists relays.now (links_in links.new)))) }
+        ensures history { Continues C.kind
+            self (lists relays.now (links_in links.old)) (AddLink from to cost)
+            result (lists relays.now (links_in links.new)) }
+        ensures lent { SameLinks links.old links.new }
     {
-        let pair = match check_link(self.counts, names, colours, ends, costs, from, to, cost) {
+        let pair = match check_link(self.counts, relays, &links.view(), from, to, cost) {
             Ok(pair) => pair,
             Err(refusal) => return Err((self, refusal)),
         };
-        let links = usize::from(self.counts.links);
-        ends[links] = pair;
-        costs[links] = cost;
-        let counts = Counts {
-            colours: self.counts.colours,
-            relays: self.counts.relays,
-            links: self.counts.links + 1,
-        };
-        Ok(Draft { counts })
+        links.write(self.counts.links, pair, cost);
+        Ok(Draft {
+            counts: self.counts.with_link(),
+        })
     }
 }

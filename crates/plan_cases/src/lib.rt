@@ -1,4 +1,4 @@
-// Tests of a draft's limits.
+//! Tests of a draft's limits.
 
 #![tactic(auto)]
 

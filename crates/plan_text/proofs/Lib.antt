@@ -4,3 +4,4 @@ pub mod Entries
 pub mod Blocks
 pub mod Unique
 pub mod Complete
+pub mod Mapped

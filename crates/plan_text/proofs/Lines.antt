@@ -1,36 +1,11 @@
 -- A word or a line of numbers at the front of a list. Assumes nothing.
-use Rattle.std.proofs.Common.{◌≡◌, ℕ, ◌+◌, ◌-◌, ◌<◌, ◌≤◌, min, List, [], ◌∷◌, ◌++◌, length, get_or, take, drop, Some, None, decimal, Option, sym, refl, ap, ◌∙◌, ap₂, ⊎_elim, arith, MatchOption}
+use Rattle.std.proofs.Common.{◌≡◌, ℕ, ◌+◌, ◌<◌, List, [], ◌∷◌, ◌++◌, length, get_or, drop, decimal, sym, refl, ap, ◌∙◌, ap₂, arith}
 use Rattle.std.specs.List.{AllByRecursion}
 use Rattle.std.proofs.ByRecursion.{All-get_or, All-push}
-use Rattle.std.proofs.lemmas.List.Prefix.{front_fits}
-use Rattle.std.proofs.lemmas.List.{append_assoc, append_cancel_left, drop_all, drop-drop, drop_more, length-drop, length_push, take_rest}
-use Rattle.std.proofs.lemmas.Bool.{cases_lt}
-use Rattle.plan_text.specs.Rows.{fields, row, TenDigits}
-use Rattle.plan_text.proofs.Runs.{Stops, same_number}
-
--- past its end a list goes on with nothing
-drop_min : (xs : List ℕ) (at start : ℕ) → start ≡ min at (length xs) → drop at xs ≡ drop start xs
-drop_min xs at start m =
-    ⊎_elim
-    (λ l. let e : at ≡ start = omega arith in ap (λ k. drop k xs) e)
-    (λ l. drop_all at xs l ∙ sym (drop_all start xs (omega arith)))
-    (cases_lt at (length xs))
-
--- `&xs[start..]`
-part_is : (xs : List ℕ) (at start : ℕ) → start ≡ min at (length xs) → drop at xs ≡ take (length xs - start) (drop start xs)
-part_is xs at start m = drop_min xs at start m ∙ sym (take_rest xs start)
-
--- the part begins with a word
-pub word_there : (xs p : List ℕ) (at start : ℕ) → start ≡ min at (length xs) → take (length xs - start) (drop start xs) ≡ p ++ drop (length p) (take (length xs - start) (drop start xs)) → (start + length p ≤ length xs) × (drop at xs ≡ p ++ drop (start + length p) xs)
-word_there xs p at start m e =
-    let whole = take_rest xs start in
-    let front = sym whole ∙ e ∙ ap (λ l. p ++ drop (length p) l) whole in (
-      omega (arith, front_fits _ p _ front, length-drop start xs),
-      drop_min xs at start m ∙ front ∙ ap (λ l. p ++ l) (drop-drop (length p) start xs),
-    )
-
-pub word_none : (xs p rest : List ℕ) (at start : ℕ) → start ≡ min at (length xs) → drop at xs ≡ p ++ rest → take (length xs - start) (drop start xs) ≡ p ++ rest
-word_none xs p rest at start m e = sym (part_is xs at start m) ∙ e
+use Rattle.std.proofs.lemmas.List.{append_assoc, append_cancel_left, drop_more, length_push}
+use Rattle.plan_text.specs.Rows.{fields, row, TenDigits, NoDigit, Begins}
+use Rattle.plan_text.specs.Reading.{LacksRow}
+use Rattle.plan_text.proofs.Runs.{same_number}
 
 -- what a line has left behind a number
 abbrev pub left : List ℕ → List ℕ
@@ -47,7 +22,7 @@ row_at ns i l = ap row (drop_more ns i 0 l) ∙ row_first (get_or ns i 0) (drop 
 left_at : (ns : List ℕ) (i : ℕ) → i < length ns → left (drop i ns) ≡ 32 ∷ row (drop i ns)
 left_at ns i l = ap left (drop_more ns i 0 l) ∙ ap (λ r. 32 ∷ row r) (sym (drop_more ns i 0 l))
 
-stops_left : (ns rest : List ℕ) → Stops (left ns ++ rest)
+stops_left : (ns rest : List ℕ) → NoDigit (left ns ++ rest)
 stops_left [] rest = λ d. omega arith
 stops_left (n ∷ ns) rest = λ d. omega arith
 
@@ -77,10 +52,6 @@ fields_push [] n h = absurd (omega arith)
 fields_push (m ∷ []) n h = refl
 fields_push (m ∷ (k ∷ ns)) n h =
     ap (λ l. decimal m ++ (32 ∷ l)) (fields_push (k ∷ ns) n (omega arith)) ∙ sym (append_assoc (decimal m) (32 ∷ fields (k ∷ ns)) (32 ∷ decimal n))
-
--- no line of n numbers stands at the front of xs
-abbrev pub NoLine : List ℕ → ℕ → Type 0
-NoLine xs n = (ns rest : List ℕ) → length ns ≡ n → AllByRecursion TenDigits ns → xs ≡ row ns ++ rest → ⊥
 
 -- the first i of n numbers of a line at the front of xs are read, and ys is what comes behind them
 pub record Sofar (xs : List ℕ) (n i : ℕ) (read ys : List ℕ) : Type 0 where
@@ -117,7 +88,7 @@ module _ {xs : List ℕ} {n i : ℕ} {read ys : List ℕ} (more : i < n) where
     rest = λ ns rest f s q. append_cancel_left (32 ∷ []) _ _ (sym e ∙ h.rest some ns rest f s q ∙ ap (λ l. l ++ rest) (left_at ns i (omega arith)));
   }
 
-  pub refuse_space : Sofar xs n i read ys → 0 < i → ((zs : List ℕ) → ys ≡ 32 ∷ zs → ⊥) → NoLine xs n
+  pub refuse_space : Sofar xs n i read ys → 0 < i → ((zs : List ℕ) → ys ≡ 32 ∷ zs → ⊥) → LacksRow xs n
   refuse_space h some none ns rest f s q = none _ (h.rest some ns rest f s q ∙ ap (λ l. l ++ rest) (left_at ns i (omega arith)))
 
   -- the next number of a line that stands there
@@ -125,23 +96,14 @@ module _ {xs : List ℕ} {n i : ℕ} {read ys : List ℕ} (more : i < n) where
   due h ns rest f s q =
       h.rest ns rest f s q ∙ ap (λ l. l ++ rest) (row_at ns i (omega arith)) ∙ append_assoc (decimal (get_or ns i 0)) (left (drop (i + 1) ns)) rest
 
-  pub refuse_number : Ready xs n i read ys → ((v : ℕ) (zs : List ℕ) → TenDigits v → Stops zs → ys ≡ decimal v ++ zs → ⊥) → NoLine xs n
+  pub refuse_number : Ready xs n i read ys → ((v : ℕ) (zs : List ℕ) → Begins ys v zs → ⊥) → LacksRow xs n
   refuse_number h none ns rest f s q =
-      none (get_or ns i 0) _ (All-get_or TenDigits ns i 0 (omega arith) s) (stops_left (drop (i + 1) ns) rest) (due h ns rest f s q)
+      none (get_or ns i 0) _ (record { short = All-get_or TenDigits ns i 0 (omega arith) s; there = due h ns rest f s q; ends = stops_left (drop (i + 1) ns) rest })
 
-  pub one_more : (v : ℕ) (zs : List ℕ) → Ready xs n i read ys → TenDigits v → ys ≡ decimal v ++ zs → Stops zs → Sofar xs n (i + 1) (read ++ v ∷ []) zs
-  one_more v zs h short e stops = record {
-    short = All-push TenDigits read v h.short short;
+  pub one_more : (v : ℕ) (zs : List ℕ) → Ready xs n i read ys → Begins ys v zs → Sofar xs n (i + 1) (read ++ v ∷ []) zs
+  one_more v zs h b = record {
+    short = All-push TenDigits read v h.short b.short;
     count = length_push read v ∙ ap (λ j. j + 1) h.count;
-    front = h.front v zs e;
-    rest = λ some ns rest f s q. (same_number ys zs (left (drop (i + 1) ns) ++ rest) v (get_or ns i 0) short (All-get_or TenDigits ns i 0 (omega arith) s) e stops (due h ns rest f s q) (stops_left (drop (i + 1) ns) rest)).1;
+    front = h.front v zs b.there;
+    rest = λ some ns rest f s q. (same_number ys zs (left (drop (i + 1) ns) ++ rest) v (get_or ns i 0) b.short (All-get_or TenDigits ns i 0 (omega arith) s) b.there b.ends (due h ns rest f s q) (stops_left (drop (i + 1) ns) rest)).1;
   }
-
--- behind the last number the line's end is to come, and then it is read
-pub line_end : (text : List ℕ) {xs : List ℕ} {n i : ℕ} {read ys : List ℕ} → Sofar xs n i read ys → 0 < i → n ≤ i → (o : Option ℕ) → MatchOption o ((zs : List ℕ) → ys ≡ 10 ∷ zs → ⊥) (λ p. (p ≤ length text) × (ys ≡ 10 ∷ drop p text)) → MatchOption o (NoLine xs n) (λ p. (p ≤ length text) × AllByRecursion TenDigits read × (xs ≡ row read ++ drop p text))
-line_end text {i} h some all None none = λ ns rest f s q. none rest (h.rest some ns rest f s q ∙ ap (λ l. left l ++ rest) (drop_all i ns (omega arith)))
-line_end text {read} h some all (Some p) e = (
-  e.0,
-  h.short,
-  h.front ∙ ap (λ l. fields read ++ l) e.1 ∙ sym (append_assoc (fields read) (10 ∷ []) (drop p text)),
-)

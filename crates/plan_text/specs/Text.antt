@@ -3,7 +3,7 @@ use Rattle.std.specs.Prelude.{ℕ, List, [], ◌∷◌, ◌++◌, length, codes,
 use Rattle.std.specs.List.{flat_map}
 use Rattle.plan.specs.Plan.{Plan, Relay, Link, name_of}
 use Rattle.plan_text.specs.Rows.{row}
-use Rattle.plan_text.specs.Kinds.{letter_of, heading_of}
+use Rattle.plan_text.specs.Kinds.{letter_of, heading_of, TextKind}
 use Rattle.plan_text.specs.declared.plan_kind.PlanKind.{PlanKind}
 
 -- the text does not begin with this
@@ -24,8 +24,8 @@ abbrev pub relay_line : Relay → List ℕ
 relay_line r = row (r.name ∷ (r.colour ∷ []))
 
 -- the names of the two ends, and what is shown of the cost
-abbrev pub link_line : {C : Type 0} → (C → List ℕ) → Plan C → Link C → List ℕ
-link_line shown p l = row (name_of p l.from ∷ (name_of p l.to ∷ shown l.cost))
+abbrev pub link_line : {C : Type 0} → TextKind C → Plan C → Link C → List ℕ
+link_line T p l = row (name_of p l.from ∷ (name_of p l.to ∷ T.shown l.cost))
 
 -- the first block of a plan of k colours, n relays and m links
 abbrev pub header : PlanKind → ℕ → ℕ → ℕ → List ℕ
@@ -33,12 +33,14 @@ header kind k n m = plan_heading ++ counts_line kind k n m
 
 -- the header, and the second block as far as p has relays
 abbrev pub relays_written : {C : Type 0} → PlanKind → ℕ → ℕ → ℕ → Plan C → List ℕ
-relays_written kind k n m p = (header kind k n m ++ relay_heading) ++ flat_map relay_line p.relays
+relays_written kind k n m p =
+    (header kind k n m ++ relay_heading) ++ flat_map relay_line p.relays
 
 -- and the third block as far as p has links
-abbrev pub links_written : {C : Type 0} → PlanKind → (C → List ℕ) → ℕ → ℕ → ℕ → Plan C → List ℕ
-links_written kind shown k n m p = (relays_written kind k n m p ++ heading_of kind) ++ flat_map (link_line shown p) p.links
+abbrev pub links_written : {C : Type 0} → TextKind C → ℕ → ℕ → ℕ → Plan C → List ℕ
+links_written T k n m p =
+    (relays_written T.kind k n m p ++ heading_of T.kind) ++ flat_map (link_line T p) p.links
 
 -- the text of a plan
-abbrev pub text_of : {C : Type 0} → PlanKind → (C → List ℕ) → Plan C → List ℕ
-text_of kind shown p = links_written kind shown p.colours (length p.relays) (length p.links) p
+abbrev pub text_of : {C : Type 0} → TextKind C → Plan C → List ℕ
+text_of T p = links_written T p.colours (length p.relays) (length p.links) p

@@ -1,4 +1,4 @@
-// Reads the text of a plan.
+//! Reads the text of a plan.
 
 #![tactic(auto)]
 

@@ -1,14 +1,18 @@
 ghost use Rattle.std.specs.Prelude.{Some};
 ghost use Rattle.plan_text.specs.Refusers.{word_of};
+ghost use Rattle.plan_text.specs.Reading.{Says};
 
 use plan::{Draft, Refusal};
 use std::fmt;
 
-// Who refused a plan's text: the text itself, the draft, or the closing.
+/// Who refused a plan's text.
 #[derive(Clone, Copy, PartialEq, Eq, Debug)]
 pub enum Refuser {
+    /// The text itself: it is not in form, or beyond a limit.
     Text,
+    /// The draft, of what a line enters.
     Draft,
+    /// The closing of the whole plan.
     Closing,
 }
 
@@ -24,12 +28,29 @@ impl fmt::Display for Refuser {
     }
 }
 
-// A refused reading: the refusal, its line from 1 or 0 from closing, who refused,
-// and the draft with the lines before it, once it is open.
+/// A refused reading.
 #[derive(Drop)]
 pub struct Refused {
+    /// Why it was refused.
     pub refusal: Refusal,
+    /// The line of the text, from 1; 0 from the closing. No `Option`: it is told and printed as 0.
     pub line: u32,
+    /// Who refused.
     pub by: Refuser,
+    /// The draft with the lines before, once it is open.
     pub draft: Option<Draft>,
+}
+
+impl Refused {
+    // A refusal at a line, or at line 0 by the closing, with the draft in hand.
+    pub(crate) fn new(refusal: Refusal, line: u32, by: Refuser, draft: Option<Draft>) -> Refused
+        ensures { Says result refusal line by draft }
+    {
+        Refused {
+            refusal,
+            line,
+            by,
+            draft,
+        }
+    }
 }

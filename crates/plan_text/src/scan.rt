@@ -1,81 +1,71 @@
-// Reads words and lines of numbers out of bytes.
-ghost use Rattle.std.specs.Prelude.{◌≡◌, ℕ, ◌<◌, ◌≤◌, List, ◌++◌, length, drop, decimal, MatchOption, ◌≢◌, slice_index};
-ghost use Rattle.std.specs.Int.{IsInRange};
+// Reads words and lines of numbers at the front of a text.
+ghost use Rattle.std.specs.Prelude.{◌≡◌, ℕ, ◌<◌, List, ◌++◌, length, MatchOption, IfNone, IfSome, OnSome};
 ghost use Rattle.std.specs.List.{AllByRecursion};
-ghost use Rattle.plan_text.specs.Rows.{row as LineOf, TenDigits};
+ghost use Rattle.plan_text.specs.Rows.{row as LineOf, TenDigits, AreDigits, NoDigit, Begins};
+ghost use Rattle.plan_text.specs.Text.{Lacks};
+ghost use Rattle.plan_text.specs.Reading.{LacksRow};
 
 // A number of a line has at most so many digits.
 const MOST_DIGITS: usize = 10;
 
-// Where the text goes on behind `word`, if `word` stands at `at`.
-pub(crate) fn literal(text: &[u8], at: usize, word: &[u8]) -> Option<usize>
-    ensures { MatchOption result ((rest : List ℕ) → drop at text.now ≢ word.now ++ rest)
-        (λ p. (p ≤ length text.now) × (drop at text.now ≡ word.now ++ drop p text.now)) }
+// The text behind `word`, if it begins with `word`.
+pub(crate) fn literal<'a>(text: &'a [u8], word: &[u8]) -> Option<&'a [u8]>
+    ensures { MatchOption result (Lacks text.now word.now)
+        (λ rest. text.now ≡ word.now ++ rest.now) }
 {
-    // Past its end the text goes on with nothing.
-    let start = at.min(text.len());
-    if text[start..].starts_with(word) {
-        Some(start + word.len())
-    } else {
-        None
-    }
+    text.strip_prefix(word)
 }
 
-// Where the run of digits at `at` ends.
-fn digits_end(text: &[u8], at: usize) -> usize
-    ensures from { at ≤ result }
-    ensures within { at < result → result ≤ length text.now }
-    ensures all { (k : ℕ) → k < result → at ≤ k → IsInRange 48 57 (slice_index text.now k) }
-    ensures stops { IsInRange 48 57 (slice_index text.now result) → ⊥ }
+// The digits that the text begins with, and the text behind them.
+fn split_digits(text: &[u8]) -> (&[u8], &[u8])
+    ensures whole { text.now ≡ result.0.now ++ result.1.now }
+    ensures digits { AreDigits result.0.now }
+    ensures ends { NoDigit result.1.now }
 {
-    let mut end = at;
-    while end < text.len() && text[end].is_ascii_digit() {
-        end += 1;
-    }
-    end
+    let count = text
+        .iter()
+        .position(|byte| !byte.is_ascii_digit())
+        .unwrap_or(text.len());
+    text.split_at(count)
 }
 
-// The number at `at` and where its digits end: at most ten of them, and no zero before others.
-fn number(text: &[u8], at: usize) -> Option<(u64, usize)>
-    ensures { MatchOption result
-        ((n : ℕ) (rest : List ℕ) → TenDigits n → (IsInRange 48 57 (slice_index rest 0) → ⊥)
-        → drop at text.now ≢ decimal n ++ rest)
-        (λ x. (x.1 ≤ length text.now) × TenDigits x.0
-        × (drop at text.now ≡ decimal x.0 ++ drop x.1 text.now)
-        × (IsInRange 48 57 (slice_index text.now x.1) → ⊥)) }
+// The number that the text begins with, of at most ten digits and no zero before others,
+// and the text behind it.
+fn number(text: &[u8]) -> Option<(u64, &[u8])>
+    ensures { MatchOption result ((n : ℕ) (rest : List ℕ) → Begins text.now n rest → ⊥)
+        (λ x. Begins text.now x.0 x.1.now) }
 {
-    let end = digits_end(text, at);
-    let count = end - at;
-    if count == 0 || count > MOST_DIGITS {
+    let (digits, rest) = split_digits(text);
+    if digits.is_empty() || digits.len() > MOST_DIGITS {
         return None;
     }
-    if count > 1 && text[at] == b'0' {
+    if digits.len() > 1 && digits[0] == b'0' {
         return None;
     }
+    // A loop: `fold` was tried, and its proof did not close. It asks before the first call that no
+    // sum on the way overflows, which here the loop's invariant says.
     let mut value = 0;
-    for digit in &text[at..end] {
+    for digit in digits {
         value = value * 10 + u64::from(*digit - b'0');
     }
-    Some((value, end))
+    Some((value, rest))
 }
 
-// Reads a line of numbers at `at`, as many as `numbers` has places; answers where the next line begins.
-pub(crate) fn row(text: &[u8], at: usize, numbers: &mut [u64]) -> Option<usize>
+// Reads a line of numbers, as many as `numbers` has places; answers the text behind it.
+pub(crate) fn row<'a>(text: &'a [u8], numbers: &mut [u64]) -> Option<&'a [u8]>
     requires { 0 < length numbers.old }
-    ensures { MatchOption result
-        ((ns rest : List ℕ) → length ns ≡ length numbers.old → AllByRecursion TenDigits ns
-        → drop at text.now ≢ LineOf ns ++ rest)
-        (λ p. (p ≤ length text.now) × AllByRecursion TenDigits numbers.new
-        × (drop at text.now ≡ LineOf numbers.new ++ drop p text.now)) }
+    ensures none { IfNone result (LacksRow text.now (length numbers.old)) }
+    ensures short { OnSome result (AllByRecursion TenDigits numbers.new) }
+    ensures line { IfSome result (λ rest. text.now ≡ LineOf numbers.new ++ rest.now) }
 {
-    let mut next = at;
+    let mut rest = text;
     for (i, place) in numbers.iter_mut().enumerate() {
         if i > 0 {
-            next = literal(text, next, b" ")?;
+            rest = literal(rest, b" ")?;
         }
-        let (value, end) = number(text, next)?;
+        let (value, behind) = number(rest)?;
         *place = value;
-        next = end;
+        rest = behind;
     }
-    literal(text, next, b"\n")
+    literal(rest, b"\n")
 }

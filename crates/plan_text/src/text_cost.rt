@@ -1,52 +1,43 @@
-ghost use Rattle.std.specs.Prelude.{◌≡◌, ℕ, List};
-ghost use Rattle.plan_text.specs.declared.plan_kind.PlanKind.{PlanKind};
-ghost use Rattle.plan_text.specs.declared.plan_kind.PlanKind.TheVariants.{Delay as delay_kind, Paid as paid_kind};
-ghost use Rattle.plan_text.specs.Kinds.{TextLaws, held_in_32, delay_shown, delay_read, paid_shown, paid_read};
+ghost use Rattle.std.specs.Prelude.{◌≡◌};
+ghost use Rattle.plan_text.specs.Kinds.{TextKind, TextLaws, held_in_32, delay_text, paid_text};
 ghost use Rattle.std.proofs.Common.{rules};
 
 use crate::plan_kind::PlanKind;
 use kind::{Cost, Delay, Paid};
 
-// A kind of costs that a plan's text can show.
+/// A kind of costs that a plan's text can show.
 pub trait TextCost: Cost {
-    ghost kind: { PlanKind };
+    // How a text shows the kind, and the cost of a link.
+    ghost text_kind: { TextKind Self };
 
-    // How many numbers show the cost of a link.
-    ghost width: { ℕ };
-
-    // What is written of a cost.
-    ghost shown: { Self → List ℕ };
-
-    // The cost that numbers say.
-    ghost read: { List ℕ → Self };
-
+    /// The kind, as a text names it.
     fn plan_kind() -> PlanKind
-        ensures { result ≡ kind };
+        ensures { result ≡ text_kind.kind };
 
+    /// How many numbers show the cost of a link: at most 3.
     fn numbers() -> usize
-        ensures { result ≡ width };
+        ensures { result ≡ text_kind.width };
 
+    /// The cost that these numbers say; where they are shown of no link's cost, a cost that no link
+    /// may have.
     fn from_numbers(numbers: &[u64]) -> Self
-        ensures { result ≡ read numbers.now };
+        ensures { result ≡ text_kind.read numbers.now };
 
-    ghost told: { TextLaws Self.Cost.link width shown read };
+    ghost told: { TextLaws Self.Cost.kind text_kind };
 }
 
 // The number, or the largest of 32 bits where it is more.
 fn in_32(number: u64) -> u32
     ensures { result ≡ held_in_32 number }
 {
-    number.min(0xffff_ffff) as u32
+    u32::try_from(number).unwrap_or(u32::MAX)
 }
 
+// Numbers of another length give a cost that no link may have, and no `Option`: what could not fail
+// would then fail, and the draft refuses that cost.
+
 impl TextCost for Delay {
-    ghost kind = { delay_kind };
-
-    ghost width = { 1 };
-
-    ghost shown = { delay_shown };
-
-    ghost read = { delay_read };
+    ghost text_kind = { delay_text };
 
     ghost told = { Prim.search rules };
 
@@ -69,13 +60,7 @@ impl TextCost for Delay {
 }
 
 impl TextCost for Paid {
-    ghost kind = { paid_kind };
-
-    ghost width = { 2 };
-
-    ghost shown = { paid_shown };
-
-    ghost read = { paid_read };
+    ghost text_kind = { paid_text };
 
     ghost told = { Prim.search rules };
 

@@ -1,12 +1,11 @@
-// Reads each text of a table, and prints what came of it.
-// A line of cases.txt is a name, a bar and a text, in which a slash stands for the end of a line.
+//! Reads each text of a table, and prints what came of it.
+//! A line of cases.txt is a name, a bar and a text, in which a slash stands for the end of a line.
 
 #![tactic(auto)]
 
-use kind::{Cost, Delay, Paid};
-use plan::{Ends, Refusal};
+use kind::{Delay, Paid};
+use plan::{Ends, LinkLists, Refusal, RelayLists};
 use plan_text::{PlanKind, TextCost, read_plan};
-use std::alloc::{AllocError, Global};
 use std::{fs, io};
 
 // The places of the lists: fewer than a plan may have, so that a plan can be too large for them.
@@ -14,23 +13,23 @@ const RELAYS: usize = 64;
 
 const LINKS: usize = 256;
 
-// The bytes that a text of the table stands for.
-fn unfold(heap: Global, text: &str) -> Result<Vec<u8>, AllocError> {
-    let mut bytes = Vec::new(heap);
-    for byte in text.bytes() {
-        bytes.push(if byte == b'/' { b'\n' } else { byte })?;
-    }
-    Ok(bytes)
-}
-
 // Reads one text, and prints what came of it.
-fn try_text<C: TextCost + Clone>(rt: &HostRuntime, text: &[u8]) -> io::Result<()> {
+fn try_text<C: TextCost>(rt: &HostRuntime, text: &[u8]) -> io::Result<()> {
+    // Set up here, list by list: the library is lent its memory as separate lists.
     let heap = rt.alloc();
     let mut names = vec![in heap; 0; RELAYS]?;
     let mut colours = vec![in heap; 0; RELAYS]?;
     let mut ends = vec![in heap; Ends { from: 0, to: 0 }; LINKS]?;
     let mut costs = vec![in heap; C::zero(); LINKS]?;
-    match read_plan(text, &mut names, &mut colours, &mut ends, &mut costs) {
+    let mut relays = RelayLists {
+        names: &mut names,
+        colours: &mut colours,
+    };
+    let mut links = LinkLists {
+        ends: &mut ends,
+        costs: &mut costs,
+    };
+    match read_plan(text, &mut relays, &mut links) {
         Ok(closed) => {
             let counts = closed.counts();
             let relays = counts.relays;
@@ -57,11 +56,12 @@ fn main(rt: HostRuntime) -> io::Result<()> {
         let Some((name, folded)) = case.split_once('|') else {
             continue;
         };
-        let text = unfold(rt.alloc(), folded)?;
+        let text = folded.replace(rt.alloc(), '/', "\n")?;
+        let bytes = text.as_bytes();
         print!(rt; "{name}: ")?;
-        match PlanKind::of_text(&text) {
-            Some(PlanKind::Paid) => try_text::<Paid>(&rt, &text)?,
-            _ => try_text::<Delay>(&rt, &text)?,
+        match PlanKind::of_text(bytes) {
+            Some(PlanKind::Paid) => try_text::<Paid>(&rt, bytes)?,
+            _ => try_text::<Delay>(&rt, bytes)?,
         }
     }
     Ok(())

@@ -1,5 +1,5 @@
 use Rattle.kind.proofs.Sums.{theory}
 use Rattle.kind.proofs.cost.exact_links.Goals as goal
 
-pub returns : goal.returns
-returns g c = record { value = c.most_links.ensures; theory = theory g.C.Cost.laws }
+pub returns-clause-theory : goal.returns-clause-theory
+returns-clause-theory g c = theory g.met.C.Cost.laws

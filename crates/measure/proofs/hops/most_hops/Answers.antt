@@ -1,6 +1,5 @@
-use Rattle.std.proofs.Common.{rules}
 use Rattle.measure.proofs.Metric.{metric}
 use Rattle.measure.proofs.hops.most_hops.Goals as goal
 
-pub returns : goal.returns
-returns g c = record { value = search rules; metric = λ p sound. metric g.C.Cost.laws p sound }
+pub returns-clause-metric : goal.returns-clause-metric
+returns-clause-metric g c = λ p sound. metric g.met.C.Cost.laws p sound

@@ -1,7 +1,10 @@
+use Rattle.std.proofs.Common.{◌≡◌}
 use Rattle.measure.specs.Settling.{NextRows, Behind}
 use Rattle.measure.proofs.measured.fill_nexts.Given as goal
 
 abbrev pub invariant-loop-u : goal.invariant-loop-u
-invariant-loop-u g l =
-    NextRows g.C.Cost.none g.C.Cost.adds l.ends l.costs l.relays l.distances l.nexts l.u
-    × Behind l.relays l.initial.nexts l.nexts
+invariant-loop-u g l = record {
+  size : l.relays ≡ l.graph.relays;
+  rows : NextRows g.C.Cost.kind l.graph l.distances.cells.now l.nexts l.u;
+  behind : Behind l.graph.relays l.initial.nexts l.nexts;
+}

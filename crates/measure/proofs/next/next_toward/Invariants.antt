@@ -1,11 +1,11 @@
-use Rattle.std.proofs.Common.{◌-◌, ◌≤◌, length}
+use Rattle.std.proofs.Common.{◌≡◌, ◌++◌}
+use Rattle.measure.specs.Links.{links_of}
 use Rattle.measure.specs.Settling.{LowestStep}
+use Rattle.measure.specs.Squares.{in_square}
 use Rattle.measure.proofs.next.next_toward.Given as goal
 
-abbrev pub invariant-loop-k : goal.invariant-loop-k
-invariant-loop-k g l =
-    (l.k ≤ length l.ends)
-    × LowestStep g.C.Cost.none g.C.Cost.adds l.ends l.costs l.relays l.distances l.from l.to l.k l.lowest
-
-abbrev pub decreases-loop-k : goal.decreases-loop-k
-decreases-loop-k g l = length l.ends - l.k
+abbrev pub invariant-loop-link : goal.invariant-loop-link
+invariant-loop-link g l = record {
+  all : l.yielded ++ l.link-iterator ≡ links_of l.graph l.from;
+  lowest : LowestStep g.C.Cost.kind l.yielded (in_square g.C.Cost.kind.none l.graph.relays l.distances.cells.now) l.from l.to l.lowest;
+}

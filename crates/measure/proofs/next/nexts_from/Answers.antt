@@ -6,7 +6,7 @@ use Rattle.measure.proofs.next.nexts_from.Goals as goal
 pub loop-x-preserved : goal.loop-x-preserved
 loop-x-preserved g c =
     cells_more c.loop-x.row c.loop-x.x c.next_toward.result 0
-    (λ y r. Toward g.C.Cost.none g.C.Cost.adds c.args.ends.now c.args.costs.now c.args.relays c.args.distances.now c.args.from y r)
+    (λ y r. Toward g.C.Cost.kind c.args.graph.now c.args.distances.now.cells.now c.args.from y r)
     (omega arith) c.loop-x.invariant c.next_toward.ensures.toward
 
 pub returns : goal.returns

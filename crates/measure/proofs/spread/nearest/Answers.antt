@@ -1,43 +1,25 @@
-use Rattle.std.proofs.Common.{◌≡◌, ℕ, ◌+◌, get_or, Some, None, Option, sym, subst, arith}
-use Rattle.std.proofs.lemmas.Bool.{both_ways}
-use Rattle.plan.proofs.Order.{decided_not}
-use Rattle.measure.specs.declared.spread.Reached.{Reached}
-use Rattle.measure.specs.Settling.{near_of, Improves}
-use Rattle.measure.specs.Best.{BestOf}
-use Rattle.measure.proofs.Relaxing.{best_skip, best_keep, best_take}
+use Rattle.std.proofs.Common.{◌≡◌, ◌+◌, ◌<◌, length, get_or, sym, ap, ◌∙◌, subst, arith}
+use Rattle.measure.specs.declared.mark.Mark.TheVariants.{Unknown}
+use Rattle.measure.specs.Settling.{Unreached, reach_of, reaches_of, near_of, settled_of, BestOf}
+use Rattle.measure.proofs.Known.{reaches_at}
+use Rattle.measure.proofs.Relaxing.{best_taken, best_kept}
 use Rattle.measure.proofs.spread.nearest.Goals as goal
-use Rattle.measure.proofs.spread.nearest.Goals.{then-improves, else-improves}
+use Rattle.measure.proofs.spread.nearest.Goals.{then-is_nearer, else-is_nearer}
 
-pub loop-x-preserved-then-settled-x : goal.loop-x-preserved-then-settled-x
-loop-x-preserved-then-settled-x g c =
-    best_skip g.C.Cost.laws (near_of c.args.known.now c.args.row.now) c.args.settled.now c.loop-x.x c.loop-x.best
-    (λ o. absurd (both_ways _ o c.if-settled-x.true))
-    c.loop-x.invariant
-
-pub loop-x-preserved-in_default : goal.loop-x-preserved-in_default
-loop-x-preserved-in_default g c =
-    best_skip g.C.Cost.laws (near_of c.args.known.now c.args.row.now) c.args.settled.now c.loop-x.x c.loop-x.best
-    (λ o. sym c.in_default.ensures)
-    c.loop-x.invariant
-
-pub loop-x-preserved : goal.loop-x-preserved
-loop-x-preserved g c =
-    let here : get_or (near_of c.args.known.now c.args.row.now) c.loop-x.x None ≡ Some c.in-Some.cost = sym c.in-Some.ensures in
-    elim c.if-improves.branch [
-      | then-improves w ↦
-          subst (λ (b : Option (Reached g.row.C.Denot)). BestOf g.C.Cost.less (near_of c.args.known.now c.args.row.now) c.args.settled.now (c.loop-x.x + 1) b) (sym w.best-is)
-          (best_take g.C.Cost.laws (near_of c.args.known.now c.args.row.now) c.args.settled.now c.loop-x.x c.in-Some.cost here c.loop-x.best
-          c.if-settled-x.false
-          (subst (λ (o : Option g.row.C.Denot). Improves g.C.Cost.less o c.in-Some.cost) c.best_cost.ensures (c.improves.ensures.0 w.if-improves.true))
-          c.loop-x.invariant)
-      | else-improves w ↦
-          subst (λ (b : Option (Reached g.row.C.Denot)). BestOf g.C.Cost.less (near_of c.args.known.now c.args.row.now) c.args.settled.now (c.loop-x.x + 1) b) (sym w.best-is)
-          (best_keep g.C.Cost.laws (near_of c.args.known.now c.args.row.now) c.args.settled.now c.loop-x.x c.in-Some.cost here c.loop-x.best
-          (λ i. decided_not _ _ c.improves.ensures w.if-improves.false (subst (λ (o : Option g.row.C.Denot). Improves g.C.Cost.less o c.in-Some.cost) (sym c.best_cost.ensures) i))
-          c.loop-x.invariant)
+pub loop-relay-preserved : goal.loop-relay-preserved
+loop-relay-preserved g c =
+    let reaches = reaches_of c.args.marks.now c.args.row.now in
+    let mark : c.loop-relay.relay < length c.args.marks.now = omega arith in
+    let is : get_or reaches c.loop-relay.relay Unreached ≡ reach_of (get_or c.args.marks.now c.loop-relay.relay Unknown) c.index-row-relay.result =
+    reaches_at c.args.marks.now c.args.row.now c.loop-relay.relay c.index-row-relay.result mark (omega arith)
+    ∙ ap (reach_of (get_or c.args.marks.now c.loop-relay.relay Unknown)) (sym c.index-row-relay.is) in
+    elim c.if-is_nearer.branch [
+      | then-is_nearer w ↦
+          subst (λ best. BestOf g.C.Cost.kind (near_of reaches) (settled_of reaches) (c.loop-relay.relay + 1) best) (sym w.best-is)
+          (best_taken g.met.C.Cost.laws reaches c.loop-relay.relay c.loop-relay.best (get_or c.args.marks.now c.loop-relay.relay Unknown) c.index-row-relay.result is
+          c.loop-relay.invariant w.if-is_nearer.ensures.nearer)
+      | else-is_nearer w ↦
+          subst (λ best. BestOf g.C.Cost.kind (near_of reaches) (settled_of reaches) (c.loop-relay.relay + 1) best) (sym w.best-is)
+          (best_kept g.met.C.Cost.laws reaches c.loop-relay.relay c.loop-relay.best (get_or c.args.marks.now c.loop-relay.relay Unknown) c.index-row-relay.result is
+          c.loop-relay.invariant w.if-is_nearer.ensures.other)
     ]
-
-pub returns : goal.returns
-returns g c =
-    let all : c.loop-x.x ≡ c.args.relays = omega arith in
-    subst (λ (n : ℕ). BestOf g.C.Cost.less (near_of c.args.known.now c.args.row.now) c.args.settled.now n c.loop-x.best) all c.loop-x.invariant

@@ -1,6 +1,5 @@
-use Rattle.measure.specs.Settling.{near_of}
-use Rattle.measure.specs.Best.{BestOf}
+use Rattle.measure.specs.Settling.{reaches_of, near_of, settled_of, BestOf}
 use Rattle.measure.proofs.spread.nearest.Given as goal
 
-abbrev pub invariant-loop-x : goal.invariant-loop-x
-invariant-loop-x g l = BestOf g.C.Cost.less (near_of l.known l.row) l.settled l.x l.best
+abbrev pub invariant-loop-relay : goal.invariant-loop-relay
+invariant-loop-relay g l = BestOf g.C.Cost.kind (near_of (reaches_of l.marks l.row)) (settled_of (reaches_of l.marks l.row)) l.relay l.best

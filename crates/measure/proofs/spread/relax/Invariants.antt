@@ -1,12 +1,10 @@
-use Rattle.std.proofs.Common.{◌-◌, ◌≤◌, length}
-use Rattle.measure.specs.Settling.{near_of, Offers, Relaxed}
+use Rattle.std.proofs.Common.{◌≡◌, ◌++◌}
+use Rattle.measure.specs.Links.{links_of}
+use Rattle.measure.specs.Settling.{reaches_of, Followed}
 use Rattle.measure.proofs.spread.relax.Given as goal
 
-abbrev pub invariant-loop-k : goal.invariant-loop-k
-invariant-loop-k g l =
-    (l.k ≤ length l.ends)
-    × Relaxed g.C.Cost.less (Offers g.C.Cost.none g.C.Cost.adds l.ends l.costs l.k l.at l.cost)
-    (near_of l.initial.known l.initial.row) (near_of l.known l.row)
-
-abbrev pub decreases-loop-k : goal.decreases-loop-k
-decreases-loop-k g l = length l.ends - l.k
+abbrev pub invariant-loop-link : goal.invariant-loop-link
+invariant-loop-link g l = record {
+  all : l.yielded ++ l.link-iterator ≡ links_of l.graph l.relay;
+  followed : Followed g.C.Cost.kind l.cost l.yielded (reaches_of l.initial.marks l.initial.row) (reaches_of l.marks l.row);
+}

@@ -1,6 +1,5 @@
-use Rattle.std.proofs.Common.{rules}
 use Rattle.order.proofs.Theory.{balls}
 use Rattle.order.proofs.colour.landmark_colour.Goals as goal
 
-pub returns : goal.returns
-returns g c = record { value = search rules; balls = λ p D sound distances. balls g.C.Cost.laws p D sound distances }
+pub returns-clause-balls : goal.returns-clause-balls
+returns-clause-balls g c = balls g.met.C.Cost.laws

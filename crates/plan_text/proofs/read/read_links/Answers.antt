@@ -1,38 +1,50 @@
-use Rattle.std.proofs.Common.{ℕ, List, ◌++◌, drop, sym, ap, ◌∙◌, arith}
+use Rattle.std.proofs.Common.{◌≡◌, ℕ, ◌+◌, ◌-◌, List, ◌++◌, refl, sym, ap, ◌∙◌, subst, arith}
 use Rattle.std.proofs.lemmas.Result.{err_from_is_err_and}
 use Rattle.plan.specs.Plan.{lists}
+use Rattle.plan.specs.Lent.{links_in}
+use Rattle.plan_text.specs.Stages.{LinksRead}
 use Rattle.plan_text.specs.Kinds.{heading_of}
 use Rattle.plan_text.proofs.Blocks.{no_heading, links_begin, links_more, links_stop_in}
 use Rattle.plan_text.proofs.read.read_links.Goals as goal
 
-pub returns-in_default : goal.returns-in_default
-returns-in_default g c =
-    no_heading g.C.Cost.link g.C.TextCost.kind g.C.TextCost.width g.C.TextCost.shown g.C.TextCost.read g.met.C.TextCost.told c.args.text.now
-    c.args.progress.at c.args.progress.relays c.args.progress.links _ (lists c.args.names.now c.args.colours.now c.args.ends.now c.args.costs.now) c.args.progress.draft _
-    c.requires
+pub returns-in_default-clause-stopped : goal.returns-in_default-clause-stopped
+returns-in_default-clause-stopped g c = λ text l b.
+    no_heading g.C.Cost.kind g.C.TextCost.text_kind g.met.C.TextCost.told text _ c.args.progress l _ _ b
     (λ rest e. c.in_default.ensures rest (e ∙ ap (λ (xs : List ℕ). xs ++ rest) (sym (c.heading.ensures ∙ ap heading_of c.plan_kind.ensures))))
     c.not_in_form.ensures (omega arith)
 
-pub loop-i-init : goal.loop-i-init
-loop-i-init g c =
-    links_begin g.C.Cost.link g.C.TextCost.kind g.C.TextCost.width g.C.TextCost.shown g.C.TextCost.read g.met.C.TextCost.told c.args.text.now
-    c.args.progress.at c.in-Some.at c.args.progress.relays c.args.progress.links (lists c.args.names.now c.args.colours.now c.args.ends.now c.args.costs.now) c.args.progress.draft
-    c.requires
-    (c.in-Some.ensures.1 ∙ ap (λ (xs : List ℕ). xs ++ drop c.in-Some.at c.args.text.now) (c.heading.ensures ∙ ap heading_of c.plan_kind.ensures))
+pub loop-line-init : goal.loop-line-init
+loop-line-init g c = (
+  record { relays = refl; links = refl },
+  record { ends = refl; costs = refl },
+  λ text l b.
+      links_begin g.C.Cost.kind g.C.TextCost.text_kind g.met.C.TextCost.told text c.args.progress _ l _ b
+      (c.in-Some.ensures ∙ ap (λ (xs : List ℕ). xs ++ c.in-Some.rest.now) (c.heading.ensures ∙ ap heading_of c.plan_kind.ensures))
+      refl (record { relays = refl; links = refl }) _ (omega arith),
+)
 
-pub returns-in_err-more : goal.returns-in_err-more
-returns-in_err-more g c =
+pub returns-in_err-progress-clause-stopped : goal.returns-in_err-progress-clause-stopped
+returns-in_err-progress-clause-stopped g c =
     let p = err_from_is_err_and c.from_residual.result c.from_residual.ensures.1 in
     rw (p.1, p.2)
-    (links_stop_in g.C.Cost.link g.C.TextCost.kind g.C.TextCost.width g.C.TextCost.shown g.C.TextCost.read g.met.C.TextCost.told c.args.text.now
-    c.loop-i.at c.args.progress.relays c.args.progress.links c.loop-i.i _ c.args.names.now c.args.colours.now
-    c.args.ends.now c.loop-i.ends c.read_link.new.ends c.args.costs.now c.loop-i.costs c.read_link.new.costs
-    c.args.progress.draft c.loop-i.draft c.in_err-more.field-0.0
-    c.loop-i.invariant c.requires.relays c.loop-i-test.true (omega arith) c.in_err-more.ensures)
+    (λ text l b. links_stop_in g.C.Cost.kind g.C.TextCost.text_kind g.met.C.TextCost.told text (c.loop-line.line - (5 + c.args.progress.relays)) _ c.loop-line.progress l
+    c.args.relays.now (links_in c.loop-line.links) (links_in c.read_link.new.links) _
+    (c.loop-line.invariant.2 text l b) (omega (arith, c.loop-line-test.true, c.loop-line.invariant.0.links)) (omega (arith, c.loop-line.invariant.0.relays))
+    c.in_err-progress.ensures.stopped c.in_err-progress.ensures.unchanged)
 
-pub loop-i-preserved : goal.loop-i-preserved
-loop-i-preserved g c =
-    links_more g.C.Cost.link g.C.TextCost.kind g.C.TextCost.width g.C.TextCost.shown g.C.TextCost.read g.met.C.TextCost.told c.args.text.now
-    c.loop-i.at c.in_ok-more.next c.args.progress.relays c.args.progress.links c.loop-i.i (lists c.args.names.now c.args.colours.now c.args.ends.now c.args.costs.now) c.args.names.now c.args.colours.now
-    c.loop-i.ends c.read_link.new.ends c.loop-i.costs c.read_link.new.costs c.loop-i.draft c.in_ok-more.more
-    c.loop-i.invariant c.in_ok-more.ensures
+pub loop-line-preserved : goal.loop-line-preserved
+loop-line-preserved g c =
+    let told = c.in_ok-progress.ensures in
+    let same = told.read.same_size in
+    let before = c.loop-line.invariant in (
+      record { relays = same.relays ∙ before.0.relays; links = same.links ∙ before.0.links },
+      record { ends = told.lent.ends ∙ before.1.ends; costs = told.lent.costs ∙ before.1.costs },
+      λ text l b. links_more g.C.Cost.kind g.C.TextCost.text_kind g.met.C.TextCost.told text (c.loop-line.line - (5 + c.args.progress.relays)) _ _ _ _ _ _ (omega arith) (before.2 text l b) told.read,
+    )
+
+pub returns-clause-read : goal.returns-clause-read
+returns-clause-read g c = λ text l b.
+    let all : c.loop-line.line - (5 + c.args.progress.relays) ≡ c.loop-line.progress.links = omega (arith, c.loop-line-test.false, c.loop-line.auto.line-end, c.loop-line.invariant.0.links) in
+    subst (λ (k : ℕ). LinksRead g.C.Cost.kind g.C.TextCost.text_kind text k c.loop-line.progress
+    l (lists c.args.relays.now (links_in c.loop-line.links))) all
+    (c.loop-line.invariant.2 text l b)

@@ -1,9 +1,14 @@
+use Rattle.std.proofs.Common.{List, ℕ, ◌-◌}
 use Rattle.plan.specs.Plan.{lists}
-use Rattle.plan_text.specs.Stages.{RelaysRead}
+use Rattle.plan.specs.Lent.{relays_in, SameRelays}
+use Rattle.plan_text.specs.Stages.{Begun, SameSize, RelaysRead}
 use Rattle.plan_text.proofs.read.read_relays.Given as goal
 
-abbrev pub invariant-loop-i : goal.invariant-loop-i
-invariant-loop-i g l =
-    RelaysRead g.C.Cost.link g.C.TextCost.kind g.C.TextCost.width g.C.TextCost.shown g.C.TextCost.read
-    l.text l.at l.relays l.links l.i
-    (lists l.initial.names l.initial.colours l.ends l.costs) (lists l.names l.colours l.ends l.costs) l.draft
+-- the relays of the lines before this one are read
+abbrev pub invariant-loop-line : goal.invariant-loop-line
+invariant-loop-line g l =
+    SameSize l.initial.progress l.progress
+    × SameRelays l.initial.relays l.relays
+    × ((text : List ℕ) → Begun g.C.TextCost.text_kind.kind text l.initial.progress
+    → RelaysRead g.C.Cost.kind g.C.TextCost.text_kind text (l.line - 4) l.progress
+    (lists (relays_in l.initial.relays) l.links) (lists (relays_in l.relays) l.links))

@@ -4,4 +4,4 @@ use Rattle.plan_text.proofs.scan.number.Given as goal
 
 -- the value of the digits so far
 abbrev pub invariant-loop-digit : goal.invariant-loop-digit
-invariant-loop-digit l = l.value ≡ digits_value 10 (take l.digit-index l.digit-items)
+invariant-loop-digit l = l.value ≡ digits_value 10 (take l.digit-index l.digits)

@@ -4,7 +4,8 @@ use Rattle.balls.proofs.Counting.{none_marked, marked_none}
 use Rattle.balls.proofs.missing.Missing.is_empty.Goals as goal
 
 pub returns : goal.returns
-returns c = (
-  (λ e. none_marked c.args.self.now.marks (sym c.args.self.now.counted ∙ eqb-true _ _ e)),
-  λ h. eq-eqb _ _ (c.args.self.now.counted ∙ marked_none c.args.self.now.marks h),
-)
+returns c =
+    let self = c.args.self.now in (
+      (λ e. none_marked self.marks (sym self.counted ∙ eqb-true _ _ e)),
+      λ none. eq-eqb _ _ (self.counted ∙ marked_none self.marks none),
+    )

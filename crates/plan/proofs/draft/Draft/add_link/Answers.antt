@@ -1,39 +1,41 @@
-use Rattle.std.proofs.Common.{ℕ, ◌+◌, ◌<◌, ◌≤◌, length, set, refl, ap, arith, rules}
-use Rattle.plan.proofs.Adding.{LinkFits, link_fits, link_added}
+use Rattle.std.proofs.Common.{ap, subst, arith}
+use Rattle.plan.specs.Plan.{LinkEntries, lists, plan_of}
+use Rattle.plan.specs.Sound.{Called}
+use Rattle.plan.specs.Steps.{LinkAdded}
+use Rattle.plan.specs.Checks.{AllHold, FirstFails}
+use Rattle.plan.specs.Rules.{link_checks}
+use Rattle.plan.proofs.Moved.{along}
+use Rattle.plan.specs.Lent.{links_in}
+use Rattle.plan.specs.History.{AddLink}
+use Rattle.plan.proofs.Held.{links_entered}
+use Rattle.plan.proofs.Adding.{Done, link_done}
+use Rattle.plan.proofs.Histories.{sound_enters}
 use Rattle.plan.proofs.draft.Draft.add_link.Given as given
 use Rattle.plan.proofs.draft.Draft.add_link.Goals as goal
 
-fits_of : (g : given.Over) (c : goal.After-from-links g)
-    → LinkFits g.C.Cost.link c.args.self.counts c.args.names.now c.args.colours.now c.args.ends.now c.args.costs.now c.args.from c.args.to c.args.cost
-fits_of g c = link_fits _ _ _ _ _ _ _ _ _ c.in-Ok.ensures.0
+pub returns-in-Err-clause-refused : goal.returns-in-Err-clause-refused
+returns-in-Err-clause-refused g c =
+    along (λ n r. FirstFails (link_checks g.C.Cost.kind n (lists c.args.relays.now r) c.args.from c.args.to c.args.cost) c.in-Err.refusal) c.self.view_is c.view.ensures c.in-Err.ensures.checked
 
-pub bounds-ends-links : goal.bounds-ends-links
-bounds-ends-links g c = let h = fits_of g c in search rules
+pub with_link-requires : goal.with_link-requires
+with_link-requires g c = omega (arith, c.in-Ok.ensures.checked.1.1.1.0, links_entered _ _ c.in-Ok.ensures.checked.0)
 
-pub offset_bounds-costs-links : goal.offset_bounds-costs-links
-offset_bounds-costs-links g c =
-    let h = fits_of g c in
-    let l : c.from-links.result < length c.args.costs.now = omega arith in
-    search rules
+done : (g : given.Over) (c : goal.After-with_link g)
+    → Done g.C.Cost.kind c.args.self (lists c.args.relays.now (links_in c.args.links.now)) (AddLink c.args.from c.args.to c.args.cost)
+    c.with_link.result (lists c.args.relays.now (links_in c.write.new.self))
+    × LinkAdded c.args.self (lists c.args.relays.now (links_in c.args.links.now)) c.args.from c.args.to c.args.cost
+    c.with_link.result (lists c.args.relays.now (links_in c.write.new.self))
+done g c = rw (← c.self.view_is) (link_done g.C.Cost.kind c.self.inside.counts _ (lists c.args.relays.now (links_in c.args.links.now)) _ c.args.from c.args.to c.args.cost c.in-Ok.pair
+    (subst (λ (r : LinkEntries g.row.C.Denot). AllHold (link_checks g.C.Cost.kind c.self.inside.counts (lists c.args.relays.now r) c.args.from c.args.to c.args.cost)) c.view.ensures c.in-Ok.ensures.checked)
+    (subst (λ (r : LinkEntries g.row.C.Denot). Called (plan_of c.self.inside.counts (lists c.args.relays.now r)) c.in-Ok.pair.from c.args.from) c.view.ensures c.in-Ok.ensures.from)
+    (subst (λ (r : LinkEntries g.row.C.Denot). Called (plan_of c.self.inside.counts (lists c.args.relays.now r)) c.in-Ok.pair.to c.args.to) c.view.ensures c.in-Ok.ensures.to)
+    c.with_link.ensures (ap (λ (r : LinkEntries g.row.C.Denot). lists c.args.relays.now r) c.write.ensures.written))
 
-pub bounds-costs-links : goal.bounds-costs-links
-bounds-costs-links g c = let h = fits_of g c in search rules
+pub returns-clause-added : goal.returns-clause-added
+returns-clause-added g c = (done g c).1
 
-pub invariant_of-counts : goal.invariant_of-counts
-invariant_of-counts g c =
-    let h : LinkFits g.C.Cost.link c.args.self.counts c.args.names.now c.args.colours.now c.args.ends.now c.args.costs.now c.args.from c.args.to c.args.cost =
-    link_fits _ _ _ _ _ _ _ _ _ c.in-Ok.ensures.0 in
-    let few : c.args.self.counts.links + 1 ≤ 1024 = omega (arith, h.few) in
-    record { coloured = c.args.self.counts.coloured; palette = c.args.self.counts.palette; few = c.args.self.counts.few; sparse = few }
+pub returns-clause-sound : goal.returns-clause-sound
+returns-clause-sound g c = sound_enters g.C.Cost.kind (AddLink c.args.from c.args.to c.args.cost) _ _ (done g c).0.enters
 
-pub returns : goal.returns
-returns g c =
-    let h : LinkFits g.C.Cost.link c.args.self.counts c.args.names.now c.args.colours.now c.args.ends.now c.args.costs.now c.args.from c.args.to c.args.cost =
-    link_fits _ _ _ _ _ _ _ _ _ c.in-Ok.ensures.0 in (
-      c.in-Ok.ensures.0,
-      link_added g.C.Cost.link g.C.Cost.laws.decided _ _ _ _ _ _ _ _ _ _ _ c.in-Ok.pair h
-          (record { same_colours = refl; more_relays = omega arith; more_links = refl })
-          c.in-Ok.ensures.1 c.in-Ok.ensures.2
-          (ap (λ (k : ℕ). set c.args.ends.now k c.in-Ok.pair) c.from-links.ensures)
-          (ap (λ (k : ℕ). set c.args.costs.now k c.args.cost) c.from-links.ensures),
-    )
+pub returns-clause-history : goal.returns-clause-history
+returns-clause-history g c = λ k calls drafted. (_, drafted, (done g c).0.enters)

@@ -1,40 +1,39 @@
-use Rattle.std.proofs.Common.{ℕ, ◌+◌, ◌≤◌, set, refl, ap, arith, rules}
-use Rattle.plan.proofs.Adding.{RelayFits, relay_fits, relay_added}
+use Rattle.std.proofs.Common.{ap, subst, arith}
+use Rattle.plan.specs.Plan.{RelayEntries, lists}
+use Rattle.plan.specs.Checks.{AllHold, FirstFails}
+use Rattle.plan.specs.Rules.{relay_checks}
+use Rattle.plan.proofs.Moved.{along}
+use Rattle.plan.specs.Lent.{relays_in}
+use Rattle.plan.specs.History.{AddRelay}
+use Rattle.plan.proofs.Held.{relays_entered}
+use Rattle.plan.proofs.Adding.{Done, relay_done}
+use Rattle.plan.proofs.Histories.{sound_enters}
 use Rattle.plan.proofs.draft.Draft.add_relay.Given as given
 use Rattle.plan.proofs.draft.Draft.add_relay.Goals as goal
 
-fits_of : (g : given.Over) (c : goal.After-from-relays g)
-    → RelayFits c.args.self.counts c.args.names.now c.args.colours.now c.args.ends.now c.args.costs.now c.args.name c.args.colour
-fits_of g c =
-    relay_fits c.args.self.counts c.args.names.now c.args.colours.now c.args.ends.now c.args.costs.now c.args.name c.args.colour
-    c.in_default.ensures
+pub returns-in-Err-clause-refused : goal.returns-in-Err-clause-refused
+returns-in-Err-clause-refused g c =
+    along (λ n r. FirstFails (relay_checks n (lists r c.args.links.now) c.args.name c.args.colour) c.in-Err.refusal) c.self.view_is c.view.ensures c.in-Err.ensures
 
-pub overflow_cast-names : goal.overflow_cast-names
-overflow_cast-names g c = let h = fits_of g c in search rules
+pub with_relay-requires : goal.with_relay-requires
+with_relay-requires g c = omega (arith, c.in_default.ensures.1.1.1.0, relays_entered _ _ c.in_default.ensures.0)
 
-pub bounds-names-relays : goal.bounds-names-relays
-bounds-names-relays g c = let h = fits_of g c in search rules
+pub returns-clause-accepted : goal.returns-clause-accepted
+returns-clause-accepted g c =
+    along (λ n r. AllHold (relay_checks n (lists r c.args.links.now) c.args.name c.args.colour)) c.self.view_is c.view.ensures c.in_default.ensures
 
-pub overflow_cast-colours : goal.overflow_cast-colours
-overflow_cast-colours g c = let h = fits_of g c in search rules
+done : (g : given.Over) (c : goal.After-with_relay g)
+    → Done g.C.Cost.kind c.args.self (lists (relays_in c.args.relays.now) c.args.links.now) (AddRelay c.args.name c.args.colour)
+    c.with_relay.result (lists (relays_in c.write.new.self) c.args.links.now)
+done g c = rw (← c.self.view_is) (relay_done g.C.Cost.kind c.self.inside.counts _ (lists (relays_in c.args.relays.now) c.args.links.now) _ c.args.name c.args.colour
+    (subst (λ (r : RelayEntries). AllHold (relay_checks c.self.inside.counts (lists r c.args.links.now) c.args.name c.args.colour)) c.view.ensures c.in_default.ensures)
+    c.with_relay.ensures (ap (λ (r : RelayEntries). lists r c.args.links.now) c.write.ensures.written))
 
-pub bounds-colours-relays : goal.bounds-colours-relays
-bounds-colours-relays g c = let h = fits_of g c in search rules
+pub returns-clause-added : goal.returns-clause-added
+returns-clause-added g c = let d = done g c in record { counts = rw (← c.self.view_is) c.with_relay.ensures; plan = d.enters.1; long = d.long; written = rw (← c.self.view_is) (ap (λ (r : RelayEntries). lists r c.args.links.now) c.write.ensures.written) }
 
-pub invariant_of-counts : goal.invariant_of-counts
-invariant_of-counts g c =
-    let h : RelayFits c.args.self.counts c.args.names.now c.args.colours.now c.args.ends.now c.args.costs.now c.args.name c.args.colour =
-    relay_fits _ _ _ _ _ _ _ c.in_default.ensures in
-    let few : c.args.self.counts.relays + 1 ≤ 256 = omega (arith, h.few) in
-    record { coloured = c.args.self.counts.coloured; palette = c.args.self.counts.palette; few = few; sparse = c.args.self.counts.sparse }
+pub returns-clause-sound : goal.returns-clause-sound
+returns-clause-sound g c = sound_enters g.C.Cost.kind (AddRelay c.args.name c.args.colour) _ _ (done g c).enters
 
-pub returns : goal.returns
-returns g c =
-    let h : RelayFits c.args.self.counts c.args.names.now c.args.colours.now c.args.ends.now c.args.costs.now c.args.name c.args.colour =
-    relay_fits _ _ _ _ _ _ _ c.in_default.ensures in (
-      c.in_default.ensures,
-      relay_added _ _ _ _ _ _ _ _ _ _ _ h
-          (record { same_colours = refl; more_relays = refl; more_links = omega arith })
-          (ap (λ (k : ℕ). set c.args.names.now k c.args.name) c.from-relays.ensures)
-          (ap (λ (k : ℕ). set c.args.colours.now k c.args.colour) c.from-relays.ensures),
-    )
+pub returns-clause-history : goal.returns-clause-history
+returns-clause-history g c = λ k calls drafted. (_, drafted, (done g c).enters)
