@@ -1,7 +1,7 @@
-use Rattle.std.proofs.Common.{refl, inl, inr, arith, rules}
+use Rattle.std.proofs.Common.{inl, inr, arith, rules}
 use Rattle.std.proofs.lemmas.Result.{err_from_is_err_and, MatchResult-at_ok, MatchResult-at_err}
 use Rattle.plan_text.proofs.Mapped.{err_mapped, ok_mapped}
-use Rattle.plan_text.proofs.Blocks.{too_many, no_draft, no_relay_heading, begun}
+use Rattle.plan_text.proofs.Blocks.{too_many, no_draft, no_relay_heading}
 use Rattle.plan_text.proofs.read.read_start.Goals as goal
 
 pub returns-then-counts-lt1-clause-stopped : goal.returns-then-counts-lt1-clause-stopped
@@ -23,9 +23,3 @@ returns-in_default-clause-stopped g c =
     let q = ok_mapped _ c.open-opened.result c.map_err.result c.map_err.ensures.cases _ c.in_ok-draft.was in
     no_relay_heading g.C.Cost.kind g.C.TextCost.text_kind _ _ _ c.in_ok-counts.ensures.read (omega arith, omega arith, omega arith)
     c.in_ok-draft.draft (MatchResult-at_ok _ _ _ q c.open-opened.ensures.colours, MatchResult-at_ok _ _ _ q c.open-opened.ensures.no_relays, MatchResult-at_ok _ _ _ q c.open-opened.ensures.no_links) c.in_default.ensures _ c.new-in_default.ensures
-
-pub returns-clause-read : goal.returns-clause-read
-returns-clause-read g c =
-    let q = ok_mapped _ c.open-opened.result c.map_err.result c.map_err.ensures.cases _ c.in_ok-draft.was in
-    begun g.C.Cost.kind g.C.TextCost.text_kind _ _ _ c.in_ok-counts.ensures.read (omega arith, omega arith, omega arith)
-    c.in_ok-draft.draft (MatchResult-at_ok _ _ _ q c.open-opened.ensures.colours, MatchResult-at_ok _ _ _ q c.open-opened.ensures.no_relays, MatchResult-at_ok _ _ _ q c.open-opened.ensures.no_links) _ refl refl refl c.in-Some.ensures

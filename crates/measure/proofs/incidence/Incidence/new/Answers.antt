@@ -74,6 +74,3 @@ loop-k-preserved g c =
           (omega (arith, within, place, few, c.loop-k.invariant.from)) (omega (arith, within, place, few, c.loop-k.invariant.to)) small_u small_v
           (length c.loop-k.k-iterator.iter.iter.rest.now) one_less c.loop-k.invariant.chained);
     }
-
-pub returns-clause-incident : goal.returns-clause-incident
-returns-clause-incident g c = subst (Chained _ _ _ _) c.in-None.ensures.steps.1.0 c.loop-k.invariant.chained
