@@ -16,7 +16,7 @@ returns-in_default-clause-stopped g c = λ text l b.
 pub loop-line-init : goal.loop-line-init
 loop-line-init g c = (
   record { relays = refl; links = refl },
-  record { ends = refl; costs = refl },
+  record { ends = refl; costs = refl; ends_long = refl; costs_long = refl },
   λ text l b.
       links_begin g.C.Cost.kind g.C.TextCost.text_kind g.met.C.TextCost.told text c.args.progress _ l _ b
       (c.in-Some.ensures ∙ ap (λ (xs : List ℕ). xs ++ c.in-Some.rest.now) (c.heading.ensures ∙ ap heading_of c.plan_kind.ensures))
@@ -38,7 +38,12 @@ loop-line-preserved g c =
     let same = told.read.same_size in
     let before = c.loop-line.invariant in (
       record { relays = same.relays ∙ before.0.relays; links = same.links ∙ before.0.links },
-      record { ends = told.lent.ends ∙ before.1.ends; costs = told.lent.costs ∙ before.1.costs },
+      record {
+        ends = told.lent.ends ∙ before.1.ends;
+        costs = told.lent.costs ∙ before.1.costs;
+        ends_long = told.lent.ends_long ∙ before.1.ends_long;
+        costs_long = told.lent.costs_long ∙ before.1.costs_long;
+      },
       λ text l b. links_more g.C.Cost.kind g.C.TextCost.text_kind g.met.C.TextCost.told text (c.loop-line.line - (5 + c.args.progress.relays)) _ _ _ _ _ _ (omega arith) (before.2 text l b) told.read,
     )
 

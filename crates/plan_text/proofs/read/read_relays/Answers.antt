@@ -21,7 +21,12 @@ loop-line-preserved g c =
     let same = told.read.same_size in
     let before = c.loop-line.invariant in (
       record { relays = same.relays ∙ before.0.relays; links = same.links ∙ before.0.links },
-      record { names = told.lent.names ∙ before.1.names; colours = told.lent.colours ∙ before.1.colours },
+      record {
+        names = told.lent.names ∙ before.1.names;
+        colours = told.lent.colours ∙ before.1.colours;
+        names_long = told.lent.names_long ∙ before.1.names_long;
+        colours_long = told.lent.colours_long ∙ before.1.colours_long;
+      },
       λ text b. relays_more g.C.Cost.kind g.C.TextCost.text_kind text (c.loop-line.line - 4) _ _ _ _ _ _ (omega arith) (before.2 text b) told.read,
     )
 
