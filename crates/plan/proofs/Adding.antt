@@ -1,18 +1,19 @@
 -- What adding does to the plan that the lists hold.
-use Rattle.std.proofs.Common.{◌≡◌, ℕ, ◌+◌, ◌<◌, List, [], ◌∷◌, ◌++◌, length, get_or, take, set, sym, ap, ◌∙◌, ap₂, inl, inr, arith}
+use Rattle.std.proofs.Common.{◌≡◌, ℕ, ◌+◌, ◌^◌, ◌<◌, List, [], ◌∷◌, ◌++◌, length, get_or, take, set, sym, ap, ◌∙◌, subst, ap₂, inl, inr, arith}
 use Rattle.std.specs.List.{AllByRecursion}
 use Rattle.std.proofs.lemmas.List.{length-take-le, take_more_set, length_push, length-set, get_or_default}
-use Rattle.std.proofs.ByRecursion.{All-push, All-from_get_or, All-weaker}
-use Rattle.kind.specs.Laws.{CostKind}
+use Rattle.std.proofs.ByRecursion.{All-push, All-get_or, All-from_get_or, All-weaker}
+use Rattle.kind.specs.Laws.{CostKind, IsLink}
 use Rattle.plan.specs.declared.ends.Ends.{Ends}
 use Rattle.plan.specs.declared.counts.Counts.{Counts}
 use Rattle.plan.specs.Plan.{Lists, lists, IsLong, Plan, Relay, Link, plan_of, relay, link, link_of, paired, with_relay, with_link}
 use Rattle.plan.specs.Walk.{Linked}
 use Rattle.plan.specs.Sound.{Sound, NoTwo, SameName, SamePair, Called}
 use Rattle.plan.specs.Checks.{AllHold}
-use Rattle.plan.specs.Rules.{relay_checks, link_checks, relay_rules, link_rules}
-use Rattle.plan.specs.Steps.{Grown, relay_written, link_written, AddsLink, LinkAdded}
+use Rattle.plan.specs.Rules.{relay_checks, link_checks, relay_rules, link_rules, Joined, IsNewPair, LinkPlace}
+use Rattle.plan.specs.Steps.{Grown, relay_written, link_written, RelayAdded, AddsLink, LinkAdded}
 use Rattle.plan.specs.History.{Call, AddRelay, AddLink, Enters}
+use Rattle.plan.proofs.Held.{links_entered}
 use Rattle.plan.proofs.Paired.{paired_push}
 
 pub same_plan : {C : Type 0} {k k' : ℕ} {rs rs' : List Relay} {ls ls' : List (Link C)} → k ≡ k' → rs ≡ rs' → ls ≡ ls'
@@ -92,6 +93,13 @@ module _ {C : Type 0} (K : CostKind C) (n n' : Counts) (l l' : Lists C) (a c : �
     enters = (rules, relay_plan);
   }
 
+  -- the relay is entered behind the others, and a sound plan stays sound
+  pub relay_added : RelayAdded n l a c n' l' × (Sound K (plan_of n l) → Sound K (plan_of n' l'))
+  relay_added = (
+    record { counts = grown; plan = relay_plan; long = relay_done.long; written = written },
+    λ s. subst (λ (p : Plan C). Sound K p) (sym relay_plan) (sound_relay K (plan_of n l) a c s relay_done.enters.0),
+  )
+
 same_link : {C : Type 0} (l : Link C) (u v : ℕ) → l.from ≡ u → l.to ≡ v → l ≡ link u v l.cost
 same_link l u v e f i = record { from = e i; to = f i; cost = l.cost }
 
@@ -127,9 +135,24 @@ sound_link {C} K p a b u v c s (limits, (fresh, (few, _))) u_called v_called = r
     found i h (inl e) = inl (i, h, λ d. get_or_default p.links i d (link u v c) h ∙ same_link (get_or p.links i (link u v c)) u v e.0 e.1)
     found i h (inr e) = inr (i, h, λ d. get_or_default p.links i d (link u v c) h ∙ same_link (get_or p.links i (link u v c)) v u e.0 e.1)
 
-module _ {C : Type 0} (K : CostKind C) (n n' : Counts) (l l' : Lists C) (a b : ℕ) (c : C) (pair : Ends)
-    (fits : AllHold (link_checks K n l a b c)) (from_called : Called (plan_of n l) pair.from a) (to_called : Called (plan_of n l) pair.to b)
-    (grown : Grown n n' 0 1) (written : l' ≡ lists l.relays (link_written l.links n.links pair c)) where
+-- the same where the two relays are known by their numbers: that their names are below 2 ^ 32 follows
+pub sound_with_link : {C : Type 0} (K : CostKind C) (p : Plan C) (a b u v : ℕ) (c : C) → Sound K p → length p.links < 1024
+    → IsLink K c → (a ≡ b → ⊥) → (Joined p a b → ⊥) → Called p u a → Called p v b → Sound K (with_link p (link u v c))
+sound_with_link K p a b u v c s few lawful differ apart from to = sound_link K p a b u v c s (limits, (fresh, (few, tt))) from to
+  where
+    small : (w x : ℕ) → Called p w x → x < 2 ^ 32
+    small w x called =
+        let name = All-get_or _ p.relays w (relay 0 0) called.bears.0 s.names in
+        omega (arith, name.1, called.bears.1 (relay 0 0))
+
+    limits : (a < 2 ^ 32) × (b < 2 ^ 32) × IsLink K c
+    limits = (small u a from, small v b to, lawful)
+
+    fresh : IsNewPair p a b
+    fresh = record { from = u; to = v; from_called = from; to_called = to; differ = differ; apart = apart }
+
+module _ {C : Type 0} (n n' : Counts) (l l' : Lists C) (c : C) (pair : Ends)
+    (place : LinkPlace n.links l.links) (grown : Grown n n' 0 1) (written : l' ≡ lists l.relays (link_written l.links n.links pair c)) where
   same_relays : n'.relays ≡ n.relays
   same_relays = omega (arith, grown.more_relays)
 
@@ -147,26 +170,50 @@ module _ {C : Type 0} (K : CostKind C) (n n' : Counts) (l l' : Lists C) (a b : �
 
   link_plan : plan_of n' l' ≡ with_link (plan_of n l) (link_of pair c)
   link_plan =
-      let place = fits.1.1.1.1.0 in
       same_plan grown.same_colours
       (ap₂ (λ (xs ys : List ℕ). paired relay (take n'.relays xs) (take n'.relays ys)) names_kept colours_kept
       ∙ ap (λ (m : ℕ). paired relay (take m l.relays.names) (take m l.relays.colours)) same_relays)
       (ap₂ (λ (xs : List Ends) (ys : List C). paired link_of (take n'.links xs) (take n'.links ys)) ends_written costs_written
       ∙ paired_more link_of l.links.ends l.links.costs n.links n'.links pair c grown.more_links place.0 place.1)
 
+  link_long : IsLong n l → IsLong n' l'
+  link_long long = record {
+    names = omega (arith, ap length names_kept, same_relays, long.names);
+    colours = omega (arith, ap length colours_kept, same_relays, long.colours);
+    ends = omega (arith, ap length ends_written, length-set l.links.ends n.links pair, grown.more_links, place.0);
+    costs = omega (arith, ap length costs_written, length-set l.links.costs n.links c, grown.more_links, place.1);
+  }
+
+module _ {C : Type 0} (K : CostKind C) (n n' : Counts) (l l' : Lists C) (a b : ℕ) (c : C) (pair : Ends)
+    (fits : AllHold (link_checks K n l a b c)) (from_called : Called (plan_of n l) pair.from a) (to_called : Called (plan_of n l) pair.to b)
+    (grown : Grown n n' 0 1) (written : l' ≡ lists l.relays (link_written l.links n.links pair c)) where
   adds : AddsLink (plan_of n l) (plan_of n' l') pair a b c
-  adds = record { from_called = from_called; to_called = to_called; is = link_plan }
+  adds = record { from_called = from_called; to_called = to_called; is = link_plan n n' l l' c pair fits.1.1.1.1.0 grown written }
 
   entered : Done K n l (AddLink a b c) n' l'
-  entered = let place = fits.1.1.1.1.0 in let long = fits.0 in let rules : AllHold (link_rules K (plan_of n l) a b c) = (fits.1.0, (fits.1.1.0, (fits.1.1.1.0, tt))) in record {
-    long = record {
-      names = omega (arith, ap length names_kept, same_relays, long.names);
-      colours = omega (arith, ap length colours_kept, same_relays, long.colours);
-      ends = omega (arith, ap length ends_written, length-set l.links.ends n.links pair, grown.more_links, place.0);
-      costs = omega (arith, ap length costs_written, length-set l.links.costs n.links c, grown.more_links, place.1);
-    };
+  entered = let rules : AllHold (link_rules K (plan_of n l) a b c) = (fits.1.0, (fits.1.1.0, (fits.1.1.1.0, tt))) in record {
+    long = link_long n n' l l' c pair fits.1.1.1.1.0 grown written fits.0;
     enters = (rules, (pair, adds));
   }
 
   pub link_done : Done K n l (AddLink a b c) n' l' × LinkAdded n l a b c n' l'
   link_done = (entered, record { counts = grown; pair = pair; plan = adds; long = entered.long; written = written })
+
+-- the link is entered behind the others, and a sound plan stays sound
+pub link_added : {C : Type 0} (K : CostKind C) (n n' : Counts) (l l' : Lists C) (a b : ℕ) (c : C) (pair : Ends)
+    → IsLong n l → IsLink K c → (a ≡ b → ⊥) → (Joined (plan_of n l) a b → ⊥) → n.links < 1024 → LinkPlace n.links l.links
+    → Grown n n' 0 1 → Called (plan_of n l) pair.from a → Called (plan_of n l) pair.to b
+    → l' ≡ lists l.relays (link_written l.links n.links pair c)
+    → LinkAdded n l a b c n' l' × (Sound K (plan_of n l) → Sound K (plan_of n' l'))
+link_added {C} K n n' l l' a b c pair long lawful differ apart few place grown from to written =
+    let same : plan_of n' l' ≡ with_link (plan_of n l) (link_of pair c) = link_plan n n' l l' c pair place grown written in (
+      record {
+        counts = grown;
+        pair = pair;
+        plan = record { from_called = from; to_called = to; is = same };
+        long = link_long n n' l l' c pair place grown written long;
+        written = written;
+      },
+      λ s. subst (λ (p : Plan C). Sound K p) (sym same) (sound_with_link K (plan_of n l) a b pair.from pair.to c s
+          (omega (arith, links_entered n l long, few)) lawful differ apart from to),
+    )

@@ -20,6 +20,13 @@ fails_later : (xs ys : List Check) (f : Refusal) → AllHold xs → FirstFails y
 fails_later [] ys f h k = k
 fails_later (x ∷ xs) ys f h k = inr (h.0, fails_later xs ys f h.1 k)
 
+-- where neither checks refuse, the two in order refuse nothing
+pub pass_both : (xs ys : List Check) → ((f : Refusal) → FirstFails xs f → ⊥) → ((f : Refusal) → FirstFails ys f → ⊥)
+    → (f : Refusal) → FirstFails (xs ++ ys) f → ⊥
+pass_both [] ys hx hy f h = hy f h
+pass_both (x ∷ xs) ys hx hy f (inl h) = hx f (inl h)
+pass_both (x ∷ xs) ys hx hy f (inr h) = pass_both xs ys (λ g k. hx g (inr (h.0, k))) hy f h.1
+
 -- what the plan p, which the lists hold, says of the rules of a plan
 module _ {C : Type 0} (n : Counts) (l : Lists C) (rules : Plan C → List Check) (place : Type 0)
     (long : IsLong n l) (p : Plan C) (is : p ≡ plan_of n l) where

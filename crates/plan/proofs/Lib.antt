@@ -8,3 +8,5 @@ pub mod Closing
 pub mod Histories
 pub mod Moved
 pub mod Failing
+pub mod Accepted
+pub mod Lent
