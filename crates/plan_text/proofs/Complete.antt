@@ -276,3 +276,13 @@ pub complete : {C : Type 0} (K : CostKind C) (T : TextKind C) (told : TextLaws K
     → (p : Plan C) → Sound K p → Closable p → Fits p old → text ≡ text_of T p → Gives p new r
 complete K T told text old new (Ok n) read p sound closable fits there = text_injective K T told (plan_of n new) p read.sound sound (sym read.written ∙ there)
 complete K T told text old new (Err e) stopped p sound closable fits there = goes_through K T told p sound old new fits closable text there e stopped
+
+-- so reading such a text never stops
+pub never_stopped : {C : Type 0} (K : CostKind C) (T : TextKind C) (told : TextLaws K T) (text : List ℕ) (old new : Lists C) (e : Refused)
+    → Stopped K T text old new e → (p : Plan C) → Sound K p → Closable p → Fits p old → text ≡ text_of T p → ⊥
+never_stopped K T told text old new e = complete K T told text old new (Err e)
+
+-- and where the text of a sound plan is accepted, the lists hold that plan
+pub same_accepted : {C : Type 0} (K : CostKind C) (T : TextKind C) (told : TextLaws K T) (text : List ℕ) (old new : Lists C) (n : Counts)
+    → Read K T text old new n → (p : Plan C) → Sound K p → text ≡ text_of T p → plan_of n new ≡ p
+same_accepted K T told text old new n read p sound there = text_injective K T told (plan_of n new) p read.sound sound (sym read.written ∙ there)
