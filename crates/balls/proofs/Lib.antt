@@ -3,3 +3,4 @@ pub mod Meeting
 pub mod Sorted
 pub mod Nearby
 pub mod Entries
+pub mod Told
