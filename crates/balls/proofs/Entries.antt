@@ -6,7 +6,7 @@ use Rattle.kind.specs.Laws.{CostKind, IsLess}
 use Rattle.plan.specs.declared.counts.Counts.{Counts}
 use Rattle.plan.specs.Plan.{Plan, Relay, Lists, IsLong, relay, plan_of}
 use Rattle.plan.proofs.Held.{relays_entered}
-use Rattle.plan.proofs.Paired.{getD_paired}
+use Rattle.plan.proofs.Paired.{get_or-paired}
 use Rattle.measure.specs.Distance.{Distance, Distances}
 use Rattle.measure.specs.Squares.{cell_of, in_square, HasRow, row_of}
 use Rattle.measure.proofs.Cells.{row_end, cell_inside}
@@ -75,7 +75,7 @@ module _ {C : Type 0} (K : CostKind C) (n : Counts) (colours : List ℕ) (distan
         each = λ x less.
             let named : x < length (take n.relays l.relays.names) = omega (arith, first, less, length-take-le n.relays l.relays.names long.names) in
             let borne : x < length (take n.relays l.relays.colours) = omega (arith, first, less, length-take-le n.relays l.relays.colours long.colours) in
-            ap (λ (r : Relay). r.colour) (getD_paired relay (take n.relays l.relays.names) (take n.relays l.relays.colours) x 0 0 (relay 0 0) named borne)
+            ap (λ (r : Relay). r.colour) (get_or-paired relay (take n.relays l.relays.names) (take n.relays l.relays.colours) x 0 0 (relay 0 0) named borne)
             ∙ ap (λ (cs : List ℕ). get_or (take n.relays cs) x 0) same;
       }
 

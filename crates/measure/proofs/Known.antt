@@ -4,7 +4,7 @@ use Rattle.std.proofs.Math.ListN.{get_or-map}
 use Rattle.std.proofs.Math.Seq.{map-set_same}
 use Rattle.std.proofs.lemmas.List.{map-set, set-get_or, length-map}
 use Rattle.std.proofs.lemmas.Option.{none-some, same_Some}
-use Rattle.plan.proofs.Paired.{getD_paired}
+use Rattle.plan.proofs.Paired.{get_or-paired}
 use Rattle.measure.specs.declared.mark.Mark.{Mark}
 use Rattle.measure.specs.declared.mark.Mark.TheVariants.{Unknown, Open, Settled}
 use Rattle.measure.specs.Settling.{Reach, Unreached, reach_of, reaches_of, known_cost, is_settled, near_of, settled_of}
@@ -52,7 +52,7 @@ module _ {C : Type 0} where
 
   pub reaches_at : (marks : List Mark) (row : List C) (x : ℕ) (d : C) → x < length marks → x < length row
       → get_or (reaches_of marks row) x Unreached ≡ reach_of (get_or marks x Unknown) (get_or row x d)
-  reaches_at marks row x d h l = getD_paired reach_of marks row x Unknown d Unreached h l
+  reaches_at marks row x d h l = get_or-paired reach_of marks row x Unknown d Unreached h l
 
   pub reaches_set : (marks : List Mark) (row : List C) (x : ℕ) (m : Mark) (c : C)
       → reaches_of (set marks x m) (set row x c) ≡ set (reaches_of marks row) x (reach_of m c)

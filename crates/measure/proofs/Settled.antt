@@ -11,7 +11,7 @@ use Rattle.plan.specs.Plan.{Plan, Link, link_of}
 use Rattle.plan.specs.Plan as plan
 use Rattle.plan.specs.Walk.{Linked, Hop, Chain, Walk, Pair, cost_of, nowhere}
 use Rattle.plan.specs.Sound.{Sound}
-use Rattle.plan.proofs.Paired.{length-paired, getD_paired}
+use Rattle.plan.proofs.Paired.{length-paired, get_or-paired}
 use Rattle.plan.proofs.Walks.{chain_append}
 use Rattle.measure.specs.declared.graph.Graph.{Graph}
 use Rattle.measure.specs.declared.graph.Reached.{Reached}
@@ -37,7 +37,7 @@ module _ {C : Type 0} (none : C) (g : Graph C) (p : Plan C) (entered : Entered p
   link_at : (k : ℕ) → k < length g.ends.now → (d : Link C) → get_or p.links k d ≡ link_of (get_or g.ends.now k nowhere) (get_or g.costs.now k none)
   link_at k h d =
       let there : k < length g.costs.now = omega (arith, g.same) in
-      ap (λ (ls : List (Link C)). get_or ls k d) entered.links ∙ getD_paired link_of g.ends.now g.costs.now k nowhere none d h there
+      ap (λ (ls : List (Link C)). get_or ls k d) entered.links ∙ get_or-paired link_of g.ends.now g.costs.now k nowhere none d h there
 
   has_at : (k u v : ℕ) → k < length g.ends.now → (get_or g.ends.now k nowhere).from ≡ u → (get_or g.ends.now k nowhere).to ≡ v
       → ContainsAt p.links (plan.link u v (get_or g.costs.now k none))

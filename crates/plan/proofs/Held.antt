@@ -8,7 +8,7 @@ use Rattle.plan.specs.declared.counts.Counts.{Counts}
 use Rattle.plan.specs.Plan.{Lists, IsLong, InStep, Relay, Link, plan_of, plan_with, relay, link, link_of}
 use Rattle.plan.specs.Walk.{Linked, ArePaired, Pair, SomePair, nowhere}
 use Rattle.plan.specs.Sound.{Bears, Called, Unknown}
-use Rattle.plan.proofs.Paired.{length-paired, getD_paired}
+use Rattle.plan.proofs.Paired.{length-paired, get_or-paired}
 
 -- the plan that lists hold has as many relays and links as are counted
 module _ {C : Type 0} (n : Counts) (l : Lists C) (long : IsLong n l) where
@@ -34,11 +34,11 @@ module _ {C : Type 0} (k : ℕ) (names colours : List ℕ) (ends : List Ends) (c
 
   pub relay_at : (i : ℕ) → i < length names → (d : Relay)
       → get_or (plan_with k names colours ends costs).relays i d ≡ relay (get_or names i 0) (get_or colours i 0)
-  relay_at i h d = getD_paired relay names colours i 0 0 d h (omega (arith, step.relays))
+  relay_at i h d = get_or-paired relay names colours i 0 0 d h (omega (arith, step.relays))
 
   pub link_at : (j : ℕ) → j < length ends → (d : Link C) (e : Ends) (c : C)
       → get_or (plan_with k names colours ends costs).links j d ≡ link_of (get_or ends j e) (get_or costs j c)
-  link_at j h d e c = getD_paired link_of ends costs j e c d h (omega (arith, step.links))
+  link_at j h d e c = get_or-paired link_of ends costs j e c d h (omega (arith, step.links))
 
   bears : (i a : ℕ) → i < length names → get_or names i 0 ≡ a → Bears (plan_with k names colours ends costs) i a
   bears i a h e = (omega (arith, relays_count), λ d. ap (λ (r : Relay). r.name) (relay_at i h d) ∙ e)

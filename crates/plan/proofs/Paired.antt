@@ -20,12 +20,12 @@ module _ {A B X : Type 0} (f : A → B → X) where
       let same : length xs ≡ length ys = omega arith in
       ap (λ (rest : List X). f a b ∷ rest) (paired_push xs ys x y same)
 
-  pub getD_paired : (xs : List A) (ys : List B) (i : ℕ) (a : A) (b : B) (d : X) → i < length xs → i < length ys
+  pub get_or-paired : (xs : List A) (ys : List B) (i : ℕ) (a : A) (b : B) (d : X) → i < length xs → i < length ys
       → get_or (paired f xs ys) i d ≡ f (get_or xs i a) (get_or ys i b)
-  getD_paired [] ys i a b d h k = absurd (not-suc-le-zero h)
-  getD_paired (x ∷ xs) [] i a b d h k = absurd (not-suc-le-zero k)
-  getD_paired (x ∷ xs) (y ∷ ys) zero a b d h k = refl
-  getD_paired (x ∷ xs) (y ∷ ys) (suc i) a b d h k = getD_paired xs ys i a b d (le_of_suc-le-suc h) (le_of_suc-le-suc k)
+  get_or-paired [] ys i a b d h k = absurd (not-suc-le-zero h)
+  get_or-paired (x ∷ xs) [] i a b d h k = absurd (not-suc-le-zero k)
+  get_or-paired (x ∷ xs) (y ∷ ys) zero a b d h k = refl
+  get_or-paired (x ∷ xs) (y ∷ ys) (suc i) a b d h k = get_or-paired xs ys i a b d (le_of_suc-le-suc h) (le_of_suc-le-suc k)
 
   -- each list can be read off the pairs again
   pub paired_left : (g : X → A) (xs : List A) (ys : List B) → ((a : A) (b : B) → g (f a b) ≡ a) → length xs ≡ length ys
