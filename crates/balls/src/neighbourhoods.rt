@@ -1,4 +1,4 @@
-ghost use Rattle.std.specs.Prelude.{◌≡◌, ◌≢◌, ◌↔◌, ℕ, length, drop, IfOk, IfErr, OnOk, OnErr, IsTrue};
+ghost use Rattle.std.specs.Prelude.{◌≡◌, ◌≢◌, ◌↔◌, ℕ, ◌*◌, ◌≤◌, length, drop, IfOk, IfErr, OnOk, OnErr, IsTrue};
 ghost use Rattle.plan.specs.Checks.{AllHold, FirstFails};
 ghost use Rattle.plan.specs.Reach.{IsMarked};
 ghost use Rattle.balls.specs.Checks.{near_checks, order_checks};
@@ -76,6 +76,15 @@ impl<'a, C: Cost> Neighbourhoods<'a, C> {
             colours: &colours[..relays],
             distances: Square::new(relays, &distances[..relays * relays]),
         })
+    }
+
+    /// How many relays there are: at most 256, and there is a distance for each pair of them.
+    pub fn relay_count(&self) -> usize
+        ensures count { result ≡ length self.now.colours }
+        ensures few { result ≤ 256 }
+        ensures pairs { length self.now.distances ≡ result * result }
+    {
+        self.distances.side
     }
 
     // The colour of a relay; 0 if there is no such relay.

@@ -4,7 +4,6 @@ use balls::Neighbourhoods;
 use kind::{Cost, Delay, Paid};
 use measure::{Square, measure};
 use plan::{Closed, LinkView, RelayView};
-use std::alloc::AllocError;
 use std::{fmt, io};
 
 // A cost as a field of a table: its numbers alone.
@@ -33,23 +32,22 @@ fn print_heading(rt: &impl Print, title: &str, names: &[u32]) -> io::Result<()> 
 }
 
 // Prints a table by name, a row and a column for each relay:
-// in a cell stands what `show` makes of the pair's value.
-fn print_table<V: Copy, F: Fn(V) -> Result<String, AllocError>>(
+// `print_cell` prints the cell of a pair, of its value.
+fn print_table<V: Copy, F: Fn(V) -> io::Result<()>>(
     rt: &impl Print,
     title: &str,
     names: &[u32],
     cells: &[V],
-    show: F,
+    print_cell: F,
 ) -> io::Result<()>
-    requires { F.IsAlwaysCallable show }
+    requires { F.IsAlwaysCallable print_cell }
 {
     print_heading(rt, title, names)?;
     let square = Square::new(names.len(), cells);
     for (u, name) in names.iter().enumerate() {
         print!(rt; "{name:>16}")?;
         for value in square.row(u).unwrap_or(&[]) {
-            let cell = show(*value)?;
-            print!(rt; " {cell:>16}")?;
+            print_cell(*value)?;
         }
         println!(rt; "")?;
     }
@@ -77,10 +75,11 @@ where
         Err((_, refusal)) => return println!(rt; "refused {} by measuring", refusal.number()),
     };
     print_table(rt, "distance", names, &distances, |cost| {
-        format!(in heap; "{}", Field(cost))
+        let cell = format!(in heap; "{}", Field(cost))?;
+        print!(rt; " {cell:>16}")
     })?;
     print_table(rt, "next", names, &nexts, |next| {
-        format!(in heap; "{}", name_of(names, next))
+        print!(rt; " {:>16}", name_of(names, next))
     })?;
     match Neighbourhoods::new(&measured, entries.colours, &distances) {
         Ok(near) => Nearby::new(names, &near, entries.counts.colours).print(rt),
