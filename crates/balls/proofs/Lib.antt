@@ -1,5 +1,6 @@
 pub mod Counting
 pub mod Meeting
+pub mod Inserting
 pub mod Sorted
 pub mod Nearby
 pub mod Entries
